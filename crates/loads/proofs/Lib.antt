@@ -1,0 +1,11 @@
+pub mod Quotients
+pub mod OneTask
+pub mod TaskJobs
+pub mod TaskList
+pub mod TaskMarks
+pub mod Ranged
+pub mod Sizes
+pub mod Slots
+pub mod Fewer
+pub mod Labels
+pub mod ChannelViews

@@ -1,0 +1,4 @@
+pub mod LabelBytes
+pub mod Weigh
+pub mod Keep
+pub mod Turns

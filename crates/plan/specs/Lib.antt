@@ -1,0 +1,3 @@
+pub mod Labels
+pub mod Ledger
+pub mod Promise

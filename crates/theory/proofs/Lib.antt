@@ -1,0 +1,13 @@
+pub mod LastMark
+pub mod BusyPeriod
+pub mod Claims
+pub mod Look
+pub mod Walk
+pub mod Verdicts
+pub mod Lower
+pub mod BesideLaws
+pub mod Pieces
+pub mod Choose
+pub mod Run
+pub mod Given
+pub mod Never

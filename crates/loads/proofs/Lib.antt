@@ -9,3 +9,11 @@ pub mod Slots
 pub mod Fewer
 pub mod Labels
 pub mod ChannelViews
+pub mod TrainRanges
+pub mod TrainCounts
+pub mod TrainCircle
+pub mod TrainTally
+pub mod TrainLaws
+pub mod TrainLoops
+pub mod TrainMarks
+pub mod TrainPushes

@@ -4,4 +4,5 @@ pub mod Making
 pub mod Tasks
 pub mod Channels
 pub mod Slots
+pub mod Train
 pub mod Statements

@@ -7,3 +7,4 @@ pub mod refusal;
 pub mod table;
 pub mod task;
 pub mod theorems;
+pub mod train;

@@ -79,3 +79,14 @@ kept-none g h l e = record {
   stands = e;
   never-late = λ a. subst (λ (x : Ledger). Never-late (plan g x)) (sym e) (promise g h .never-late a []);
 }
+
+-- After any calls, with the answers that the ledger gives.
+pub kept-more : (g : Meaning) → Laws g → (before ks : List Call) (l : Ledger) → l ≡ after g (after g blank before) ks → Kept g before ks (answers-to g (after g blank before) ks) l
+kept-more g h before ks l e =
+    let s : l ≡ after g blank (before ++ ks) = e ∙ sym (after-join g blank before ks) in
+    record {
+      promise = promise g h;
+      answered = refl;
+      stands = s;
+      never-late = λ a. subst (λ (x : Ledger). Never-late (plan g x)) (sym s) (promise g h .never-late a (before ++ ks));
+    }

@@ -1,0 +1,13 @@
+use mathlib.Core.Path.{_≡_}
+use Prim.Native.Nat.{ℕ, _+_, _-_, _<_, _≤_}
+use lib.ListN.{length}
+use Rattle.image.specs.Decode.{decode}
+use Rattle.image.specs.Parts.{outcome}
+use Rattle.image.proofs.Checks.{Left}
+use Rattle.image.proofs.check.check.Given as given
+
+abbrev pub Inv-loop-part : given.InvT-loop-part
+Inv-loop-part l = (l .at ≤ length (l .image)) × Left (l .image) (l .before) (l .at) (outcome (decode (l .image)))
+
+abbrev pub μ-loop-part : given.MeasureT-loop-part
+μ-loop-part l = length (l .image) - l .at

@@ -1,0 +1,42 @@
+-- What is proved of the format.
+use mathlib.Core.Path.{_≡_}
+use mathlib.Core.List.{List}
+use mathlib.Core.Bool.{true}
+use Prim.Native.Nat.{ℕ, _<_, _≤_, _^_}
+use lib.ListN.{length}
+use Rattle.std.specs.declared.option.Option.{Option}
+use Rattle.std.specs.declared.option.Option.the-variants.{Some, None}
+use Rattle.std.specs.declared.result.Result.the-variants.{Ok}
+use Rattle.theory.specs.Jobs.{All}
+use Rattle.loads.specs.Params.{FrameParams, Task-ranges, Frame-ranges}
+use Rattle.loads.specs.Channels.{Content, Channels}
+use Rattle.plan.specs.Labels.{good-label}
+use Rattle.image.specs.Bytes.{bytes, value, Bytes}
+use Rattle.image.specs.Records.{Rec}
+use Rattle.image.specs.Decode.{decode}
+use Rattle.image.specs.Encode.{image, contents, encode}
+
+-- A channel's content that an image can hold: a good label of sixteen bytes, and parameters in range.
+pub record Writable-content (k : Content) : Type 0 where
+  pub label : good-label (k .label) ≡ true
+  pub sixteen : length (k .label) ≡ 16
+  pub ranges : Task-ranges (k .params)
+
+abbrev pub Writable-channel : Option Content → Type 0
+Writable-channel None = Unit {0}
+Writable-channel (Some k) = Writable-content k
+
+abbrev pub Writable : Channels → Type 0
+Writable l = All Writable-channel l
+
+-- Numbers are kept by their bytes, and bytes by their number.
+abbrev pub Numbers-keep : Type 0
+Numbers-keep = ((w n : ℕ) → n < 256 ^ w → value (bytes w n) ≡ n) × ((bs : List ℕ) → Bytes bs → bytes (length bs) (value bs) ≡ bs)
+
+-- The image of channels over frames reads back as their records.
+abbrev pub Reads-back : Type 0
+Reads-back = (l : Channels) (fs : List FrameParams) → length l ≤ 64 → Writable l → length fs ≤ 16 → All Frame-ranges fs → decode (encode l fs) ≡ Ok (contents l fs)
+
+-- An image that is read is the image of what was read, byte for byte.
+abbrev pub Writes-back : Type 0
+Writes-back = (xs : List ℕ) (rs : List Rec) → Bytes xs → decode xs ≡ Ok rs → image rs ≡ xs

@@ -1,0 +1,10 @@
+//! The crate image: a plan over a ramp train as bytes, read, written and judged.
+
+mod before;
+pub mod check;
+pub mod fault;
+pub mod fill;
+pub mod frames;
+pub mod part;
+pub mod read;
+mod read_task;

@@ -1,0 +1,27 @@
+use borrow.Author.Needs.{needs}
+use native.Mathlib.Omega.{arith}
+use mathlib.Core.Path.{refl, ap, _∙_, _≡_}
+use mathlib.Core.List.{map}
+use lib.ListN.{length, length-map}
+use Rattle.loads.specs.Making.{frame-params}
+use Rattle.loads.specs.Train.{cycle, circle-from, largest-of, ready-from, train-amounts}
+use Rattle.loads.proofs.TrainLoops.{largest-more}
+use Rattle.loads.proofs.train.sums.most_ready.Needs as need
+
+pub loop-k-holds : need.loop-k-holds
+unfolding largest-of
+loop-k-holds c = refl
+
+pub loop-k-again : need.loop-k-again
+loop-k-again c =
+    let fs = map frame-params (c .args .frames .now) in
+    let s = c .args .s in
+    largest-more (λ k. ready-from (cycle fs) s 0 (circle-from k fs)) (c .loop-k .k) (c .loop-k .most) (c .ready-at .result) (c .max-most .result) (c .loop-k .inv)
+    (c .ready-at .ensures ∙ ap (λ n. ready-from n s 0 (circle-from (c .loop-k .k) fs)) (c .cycle-of-round .ensures .same)) (search needs)
+
+pub returns : need.returns
+unfolding train-amounts
+returns c =
+    let fs = map frame-params (c .args .frames .now) in
+    let e : c .loop-k .k ≡ length fs = omega (arith, length-map (c .args .frames .now) frame-params) in
+    c .loop-k .inv ∙ ap (largest-of (λ k. ready-from (cycle fs) (c .args .s) 0 (circle-from k fs))) e

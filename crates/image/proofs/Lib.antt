@@ -9,3 +9,5 @@ pub mod SecondReading
 pub mod TakingFrames
 pub mod OneCall
 pub mod EnteringTasks
+pub mod FirstFrame
+pub mod Judging

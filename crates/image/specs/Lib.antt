@@ -7,3 +7,4 @@ pub mod Parts
 pub mod Fills
 pub mod Writes
 pub mod Statements
+pub mod Verdict

@@ -5,6 +5,8 @@ pub mod check;
 pub mod fault;
 pub mod fill;
 pub mod frames;
+pub mod outcome;
 pub mod part;
 pub mod read;
 mod read_task;
+pub mod verdict;

@@ -6,3 +6,4 @@ pub mod Channels
 pub mod Slots
 pub mod Train
 pub mod Statements
+pub mod Cases

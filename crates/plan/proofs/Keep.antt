@@ -20,7 +20,7 @@ use Rattle.theory.specs.Verdict.{busy, walk, look, look-below, found, Accepted}
 use Rattle.theory.specs.Statements.{No-claim-exceeds, Never-late, Lower}
 use Rattle.theory.proofs.Walk.{walk-is-look}
 use Rattle.theory.proofs.Verdicts.{yes-exactly, late-exactly, look-at, look-open, accepted-ok, verdicts}
-use Rattle.theory.proofs.BesideLaws.{beside-laws}
+use Rattle.theory.proofs.BesideLaws.{beside-laws, beside-lower}
 use Rattle.theory.proofs.Never.{never-late}
 use Rattle.theory.proofs.Lower.{accepted-lower}
 use Rattle.loads.specs.declared.refusal.Refusal.{Refusal}
@@ -54,11 +54,6 @@ next-ranged g l (Read c) h = h
 pub after-ranged : (g : Meaning) (l : Ledger) (ks : List Call) → Ranged l → Ranged (after g l ks)
 after-ranged g l [] h = h
 after-ranged g l (k ∷ ks) h = after-ranged g (next g l k) ks (next-ranged g l k h)
-
--- Beside the same guest, smaller amounts make smaller amounts.
-beside-lower : (a b m : Meaning) → Lower (a .amounts) (b .amounts) → Lower (beside a m .amounts) (beside b m .amounts)
-unfolding beside both
-beside-lower a b m h = record { due = λ t. omega (arith, h .due t); held = λ t. omega (arith, h .held t); ready = λ s. omega (arith, h .ready s) }
 
 no-task-lower : (g : Meaning) → Lower (beside (tasks-meaning []) g .amounts) (g .amounts)
 unfolding beside both tasks-meaning tasks-amounts

@@ -93,6 +93,11 @@ pub right-lower : (a b : Meaning) → Lower (b .amounts) (beside a b .amounts)
 unfolding beside both
 right-lower a b = record { due = λ t. omega arith; held = λ t. omega arith; ready = λ s. omega arith }
 
+-- Beside the same load, smaller amounts make smaller amounts.
+pub beside-lower : (a b m : Meaning) → Lower (a .amounts) (b .amounts) → Lower (beside a m .amounts) (beside b m .amounts)
+unfolding beside both
+beside-lower a b m h = record { due = λ t. omega (arith, h .due t); held = λ t. omega (arith, h .held t); ready = λ s. omega (arith, h .ready s) }
+
 pub parts-accepted : (a b : Meaning) → Laws a → Laws b → Accepted (beside a b .amounts) → Accepted (a .amounts) × Accepted (b .amounts)
 parts-accepted a b la lb h =
     let r = beside-laws a b la lb .rules in (

@@ -20,7 +20,7 @@ use theory::load::Load;
 use theory::verdict::Unfit;
 
 /// The refusal that a verdict gives.
-fn refusal(unfit: Unfit) -> Refusal
+pub fn refusal(unfit: Unfit) -> Refusal
     ensures { λ r. ⌜ r ≡ refusal-of unfit ⌝ }
 {
     match unfit {

@@ -11,3 +11,5 @@ pub mod OneCall
 pub mod EnteringTasks
 pub mod FirstFrame
 pub mod Judging
+pub mod Places
+pub mod WriteTurns

@@ -10,3 +10,4 @@ pub mod part;
 pub mod read;
 mod read_task;
 pub mod verdict;
+pub mod write;

@@ -98,6 +98,10 @@ pub fn verdict(image: &[u8]) -> Outcome
 pub extern "C" fn lukwaizo_check(image: &[u8]) -> u32
     ensures { λ r. ⌜ r ≡ code-of (told (judged (take 4096 (now (image .entry))))) ⌝ }
 {
-    let seen = if image.len() > LIMIT { &image[0..LIMIT] } else { image };
+    let seen = if image.len() > LIMIT {
+        &image[0..LIMIT]
+    } else {
+        image
+    };
     verdict(seen).code()
 }

@@ -13,3 +13,5 @@ pub mod FirstFrame
 pub mod Judging
 pub mod Places
 pub mod WriteTurns
+pub mod ReadsAgain
+pub mod WritesAgain

@@ -9,12 +9,14 @@ use Rattle.std.specs.declared.option.Option.the-variants.{Some, None}
 use Rattle.std.specs.declared.result.Result.the-variants.{Ok}
 use Rattle.theory.specs.Jobs.{All}
 use Rattle.loads.specs.Params.{FrameParams, Task-ranges, Frame-ranges}
-use Rattle.loads.specs.Channels.{Content, Channels}
+use Rattle.theory.specs.Meaning.{Meaning}
+use Rattle.loads.specs.Channels.{Content, Channels, blank}
 use Rattle.plan.specs.Labels.{good-label}
 use Rattle.image.specs.Bytes.{bytes, value, Bytes}
 use Rattle.image.specs.Records.{Rec}
 use Rattle.image.specs.Decode.{decode}
 use Rattle.image.specs.Encode.{image, contents, encode}
+use Rattle.image.specs.Fills.{taken, filled}
 
 -- A channel's content that an image can hold: a good label of sixteen bytes, and parameters in range.
 pub record Writable-content (k : Content) : Type 0 where
@@ -40,3 +42,14 @@ Reads-back = (l : Channels) (fs : List FrameParams) → length l ≤ 64 → Writ
 -- An image that is read is the image of what was read, byte for byte.
 abbrev pub Writes-back : Type 0
 Writes-back = (xs : List ℕ) (rs : List Rec) → Bytes xs → decode xs ≡ Ok rs → image rs ≡ xs
+
+-- The image of a ledger over frames reads back: as its records, as the frames of any train that takes them, and as
+-- the channels of a new plan over a guest that means `g`.
+pub record Reads-again (g : Meaning) (l : Channels) (fs : List FrameParams) : Type 0 where
+  pub records : decode (encode l fs) ≡ Ok (contents l fs)
+  pub frames : (held : List FrameParams) → taken (decode (encode l fs)) held ≡ (Ok tt, fs)
+  pub channels : filled g (decode (encode l fs)) blank ≡ (Ok tt, l)
+
+-- An image that fills a new plan, over a train that has taken its frames, is written again byte for byte.
+abbrev pub Writes-again : Meaning → List ℕ → Type 0
+Writes-again g xs = (l : Channels) (held fs : List FrameParams) → filled g (decode xs) blank ≡ (Ok tt, l) → taken (decode xs) held ≡ (Ok tt, fs) → encode l fs ≡ xs

@@ -9,6 +9,7 @@ ghost use Rattle.plan.specs.declared.call.Call.the-variants.{Admit as admit-cal
 ghost use Rattle.plan.specs.Ledger.{ledger, admitted, next, after};
 ghost use Rattle.image.specs.Records.{params-in, task-in};
 ghost use Rattle.image.specs.Decode.{decode};
+ghost use Rattle.image.specs.Statements.{Writes-again};
 ghost use Rattle.image.specs.Fills.{ranged, content-made, entry-made, one-entered, filled, Reached, Kept-again};
 use crate::check::check;
 use crate::fault::PlanFault;
@@ -78,6 +79,7 @@ pub fn fill<G: Load>(plan: &mut Plan<G>, image: &[u8]) -> Result<(), PlanFault>
     ensures guest { λ r. ⌜ now (plan .exit) .guest ≡ now (plan .entry) .guest ⌝ }
     ensures kept { λ r. ⌜ ((before : List a-call) → ledger (now (plan .entry)) ≡ after (G·Load .meaning (now (plan .entry) .guest)) blank before
         → Kept-again (G·Load .meaning (now (plan .entry) .guest)) before (ledger (now (plan .exit)))) ⌝ }
+    ensures again { λ r. ⌜ Writes-again (G·Load .meaning (now (plan .entry) .guest)) (now (image .entry)) ⌝ }
 {
     check(image)?;
     let mut at = 0;

@@ -1,13 +1,15 @@
 ghost use mathlib.Core.Path.{_≡_};
-ghost use mathlib.Core.List.{map};
+ghost use mathlib.Core.List.{List, map};
 ghost use Prim.Native.Nat.{_≤_, _+_};
 ghost use lib.ListN.{length};
 ghost use Rattle.loads.specs.Making.{frame-params};
-ghost use Rattle.loads.specs.Channels.{content};
+ghost use Rattle.loads.specs.Channels.{blank, content};
 ghost use Rattle.loads.specs.Train.{frames-of};
-ghost use Rattle.plan.specs.Ledger.{ledger};
+ghost use Rattle.plan.specs.declared.call.Call.{Call as a-call};
+ghost use Rattle.plan.specs.Ledger.{ledger, after};
 ghost use Rattle.image.specs.Records.{task-bytes, frame-bytes};
 ghost use Rattle.image.specs.Encode.{encode, placed-in};
+ghost use Rattle.image.specs.Statements.{Reads-again};
 ghost use Rattle.image.specs.Writes.{placed, written, tasks-bytes, frames-bytes};
 use loads::entry::Entry;
 use loads::frame::Frame;
@@ -101,7 +103,9 @@ fn tasks_len<G: Load>(plan: &Plan<G>) -> usize
 /// Writes the image of a plan over a train into a lent buffer and gives its length; later bytes stay. Where the buffer
 /// is shorter than the image, it refuses with 17 and writes nothing.
 pub fn write<G: Load>(plan: &Plan<G>, train: &RampTrain, out: &mut [u8]) -> Result<usize, Refusal>
-    ensures { λ r. ⌜ (r, now (out .exit)) ≡ written (encode (ledger (now (plan .entry))) (frames-of (now (train .entry)))) (now (out .entry)) ⌝ }
+    ensures says { λ r. ⌜ (r, now (out .exit)) ≡ written (encode (ledger (now (plan .entry))) (frames-of (now (train .entry)))) (now (out .entry)) ⌝ }
+    ensures back { λ r. ⌜ ((before : List a-call) → ledger (now (plan .entry)) ≡ after (G·Load .meaning (now (plan .entry) .guest)) blank before
+        → Reads-again (G·Load .meaning (now (plan .entry) .guest)) (ledger (now (plan .entry))) (frames-of (now (train .entry)))) ⌝ }
 {
     let frames = train.frames();
     let total = tasks_len(plan) + 14 * frames.len() + 2;

@@ -1,7 +1,7 @@
 -- The code's records keep the ranges, so the parameters that they hold do.
-use mathlib.Core.List.{List, [], _∷_, map}
+use mathlib.Core.List.{List, [], _∷_, _++_, map}
 use Prim.Native.Nat.{ℕ, zero, suc}
-use lib.ListN.{set, replicate}
+use lib.ListN.{length, set, replicate}
 use Rattle.std.specs.declared.option.Option.{Option}
 use Rattle.std.specs.declared.option.Option.the-variants.{Some, None}
 use Rattle.loads.specs.declared.task.Task.{Task}
@@ -70,6 +70,11 @@ pub set-ranged : (l : Channels) (c : ℕ) (o : Option Content) → Content-range
 set-ranged [] c o r h = tt
 set-ranged (x ∷ l) zero o r h = put-first o (filled l) r (put-rest x (filled l) h)
 set-ranged (x ∷ l) (suc c) o r h = put-over x (filled l) (filled (set l c o)) (set-ranged l c o r) h
+
+-- Channels emptied from a place on.
+pub cut-ranged : (pre r : Channels) → Ranged (pre ++ r) → Ranged (pre ++ replicate (length r) None)
+cut-ranged [] r h = blank-ranged (length r)
+cut-ranged (o ∷ pre) r h = put-over o (filled (pre ++ r)) (filled (pre ++ replicate (length r) None)) (cut-ranged pre r) h
 
 pub table-laws : (t : Table Slot) → Laws (table (channels t))
 table-laws t = tasks-laws (tasks-in (t .slots)) (slots-ranged (t .slots))

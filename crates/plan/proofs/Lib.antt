@@ -1,4 +1,5 @@
 pub mod LabelBytes
 pub mod Weigh
+pub mod Reach
 pub mod Keep
 pub mod Turns

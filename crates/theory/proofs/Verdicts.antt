@@ -188,3 +188,7 @@ accepted-ok m l v e = at (busy m) refl
     at (Some w) b =
         let q = walk-is-look m l ∙ look-at m w b in
         ((w, b), yes-exactly m l w b .0 (q ∙ found-ok w v (look-below m w) (sym q ∙ sym e)))
+
+-- An accepted load gets a yes.
+pub accepted-yes : (m : Amounts) → Rules m → Accepted m → (w : ℕ) × (look m ≡ Ok w)
+accepted-yes m l a = (a .0 .0, sym (walk-is-look m l) ∙ yes-exactly m l (a .0 .0) (a .0 .1) .1 (a .1))

@@ -16,6 +16,7 @@ use Rattle.image.specs.Decode.{part, rec-in}
 use Rattle.image.specs.Parts.{shown-record, raised, piece}
 use Rattle.image.specs.Fills.{Reached}
 use Rattle.image.proofs.EnteringTasks.{Entering, entering-start, entering-fault, entering-end, frame-passed, task-whole, task-refused, task-entered, reached-more, kept-again, not-read, Says}
+use Rattle.image.proofs.WritesAgain.{writes-again}
 use Rattle.image.proofs.fill.fill.Given as given
 use Rattle.image.proofs.fill.fill.Needs as need
 use Rattle.image.proofs.fill.fill.Needs.{in-Task·in-Continue-enter, in-Frame}
@@ -29,6 +30,7 @@ returns-in-Break-check g c =
       says = rw (p .1, p .2) (not-read m (c .args .image .now) l _ (c .in-Break-check .ensures tt));
       guest = refl;
       kept = kept-again m (g .G·Load·met .lawful (c .args .plan .now .guest)) l l ([], refl);
+      again = writes-again m (c .args .image .now) (λ i. omega (arith, c .typed .image i));
     }
 
 pub loop-part-holds : need.loop-part-holds
@@ -56,6 +58,7 @@ returns-in-Break-enter g c =
       says = rw (p .1, p .2) (task-refused m (c .args .image .now) (c .loop-part .at) l (ledger (c .loop-part .plan)) (c .loop-part .inv .0) (c .loop-part .inv .2) (c .in-Task .bytes .now) (c .in-Task .field-1) e (ledger (c .enter .last .plan)) (c .in-Break-enter .field-0 .0) f);
       guest = c .enter .ensures .guest ∙ same;
       kept = kept-again m (g .G·Load·met .lawful (c .args .plan .now .guest)) l (ledger (c .enter .last .plan)) (reached-more m l (ledger (c .loop-part .plan)) (ledger (c .enter .last .plan)) (c .loop-part .inv .2 .reached) r);
+      again = writes-again m (c .args .image .now) (λ i. omega (arith, c .typed .image i));
     }
 
 goes : (g : given.Over) (c : need.After-size-of-at g)
@@ -98,4 +101,5 @@ returns g c =
       says = entering-end m (c .args .image .now) (c .loop-part .at) l (ledger (c .loop-part .plan)) (c .loop-part .inv .0) (c .loop-part .inv .2) e;
       guest = c .loop-part .inv .1;
       kept = kept-again m (g .G·Load·met .lawful (c .args .plan .now .guest)) l (ledger (c .loop-part .plan)) (c .loop-part .inv .2 .reached);
+      again = writes-again m (c .args .image .now) (λ i. omega (arith, c .typed .image i));
     }

@@ -8,3 +8,4 @@ pub mod Fills
 pub mod Writes
 pub mod Statements
 pub mod Verdict
+pub mod Examples

@@ -1,4 +1,5 @@
 -- The verdict of an image: what the program prints and what the host gets.
+use mathlib.Core.Path.{_≡_}
 use mathlib.Core.List.{List, [], _∷_, _++_}
 use Prim.Native.Nat.{ℕ, _+_}
 use lib.Chars.{codes}
@@ -10,6 +11,7 @@ use Rattle.std.specs.declared.result.Result.the-variants.{Ok, Err}
 use Rattle.theory.specs.declared.verdict.Unfit.{Unfit}
 use Rattle.theory.specs.Meaning.{Amounts, Meaning}
 use Rattle.theory.specs.Verdict.{busy, walk}
+use Rattle.theory.specs.Statements.{Never-late}
 use Rattle.loads.specs.declared.refusal.Refusal.{Refusal}
 use Rattle.loads.specs.Refusals.{number, late-pair}
 use Rattle.loads.specs.Channels.{Channels, blank}
@@ -54,6 +56,16 @@ over-records (Ok rs) = over-train rs (walk (train-meaning (frames-in rs) .amount
 -- The verdict of an image: the busy period, or the first fault.
 unfoldable pub judged : List ℕ → Result ℕ PlanFault
 judged xs = over-records (decode xs)
+
+-- What yes with w says of an image: it was read, all its tasks were admitted and stand in `ledger`, the busy period of
+-- that plan closes at w, and of the jobs that the plan permits none is ever late.
+pub record Yes-means (xs : List ℕ) (w : ℕ) : Type 0 where
+  pub records : List Rec
+  pub read : decode xs ≡ Ok records
+  pub ledger : Channels
+  pub admitted-all : entered (train-meaning (frames-in records)) 0 records blank ≡ (Ok tt, ledger)
+  pub closes : busy (plan (train-meaning (frames-in records)) ledger .amounts) ≡ Some w
+  pub never-late : Never-late (plan (train-meaning (frames-in records)) ledger)
 
 -- What is answered: yes with the busy period, late with mark and claim and the offset, or the refusal's number and
 -- the offset.

@@ -9,5 +9,6 @@ pub mod outcome;
 pub mod part;
 pub mod read;
 mod read_task;
+pub mod theorems;
 pub mod verdict;
 pub mod write;

@@ -1,11 +1,13 @@
 ghost use mathlib.Core.Path.{_≡_};
 ghost use mathlib.Core.List.{List};
+ghost use Prim.Native.Nat.{ℕ};
 ghost use lib.ListN.{take};
 ghost use Rattle.std.specs.declared.result.Result.the-variants.{Ok};
 ghost use Rattle.theory.specs.Verdict.{busy};
+ghost use Rattle.image.specs.declared.outcome.Outcome.the-variants.{Yes as yes};
 ghost use Rattle.image.specs.Records.{Rec};
 ghost use Rattle.image.specs.Decode.{decode};
-ghost use Rattle.image.specs.Verdict.{first-frame, busy-or-zero, judged, by-fault, told, code-of};
+ghost use Rattle.image.specs.Verdict.{first-frame, busy-or-zero, judged, by-fault, told, code-of, Yes-means};
 use crate::fault::PlanFault;
 use crate::fault::PlanFromRecord;
 use crate::fill::fill;
@@ -66,7 +68,8 @@ fn refused(refusal: Refusal, at: usize) -> Outcome
 /// The busy period of the plan that an image holds, or the first fault: the frames are taken into a train, the train
 /// is judged alone, and the tasks are admitted one by one into a new plan over it.
 pub fn judge_image(image: &[u8]) -> Result<u64, PlanFault>
-    ensures { λ r. ⌜ r ≡ judged (now (image .entry)) ⌝ }
+    ensures says { λ r. ⌜ r ≡ judged (now (image .entry)) ⌝ }
+    ensures safe { λ r. ⌜ ((w : ℕ) → r ≡ Ok w → Yes-means (now (image .entry)) w) ⌝ }
 {
     let mut train = RampTrain::new();
     take_frames(&mut train, image)?;
@@ -81,7 +84,8 @@ pub fn judge_image(image: &[u8]) -> Result<u64, PlanFault>
 
 /// The verdict of an image.
 pub fn verdict(image: &[u8]) -> Outcome
-    ensures { λ r. ⌜ r ≡ told (judged (now (image .entry))) ⌝ }
+    ensures says { λ r. ⌜ r ≡ told (judged (now (image .entry))) ⌝ }
+    ensures safe { λ r. ⌜ ((w : ℕ) → r ≡ yes w → Yes-means (now (image .entry)) w) ⌝ }
 {
     match judge_image(image) {
         Ok(busy) => Outcome::Yes(busy),

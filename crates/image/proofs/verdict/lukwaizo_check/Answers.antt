@@ -15,4 +15,4 @@ returns c =
       | then-image-gt-LIMIT w ↦ ap now (w .seen-is)
       | else-image-gt-LIMIT w ↦ ap now (w .seen-is) ∙ sym (take-all 4096 (c .args .image .now) (w .if-image-gt-LIMIT .left))
     ] in
-    c .code .ensures ∙ ap code-of (c .verdict .ensures ∙ ap (λ (xs : List ℕ). told (judged xs)) seen)
+    c .code .ensures ∙ ap code-of (c .verdict .ensures .says ∙ ap (λ (xs : List ℕ). told (judged xs)) seen)

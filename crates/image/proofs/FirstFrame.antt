@@ -8,13 +8,13 @@ use Rattle.std.specs.declared.option.Option.{Option}
 use Rattle.std.specs.declared.option.Option.the-variants.{Some, None}
 use Rattle.std.specs.declared.result.Result.{Result}
 use Rattle.std.specs.declared.result.Result.the-variants.{Ok, Err}
-use Rattle.image.specs.declared.before.Before.{Before}
-use Rattle.image.specs.declared.fault.ImageFault.{ImageFault}
-use Rattle.image.specs.Records.{Rec, start}
-use Rattle.image.specs.Decode.{part, decode, Piece, task-piece, frame-piece}
+use Rattle.format.specs.declared.before.Before.{Before}
+use Rattle.format.specs.declared.fault.ImageFault.{ImageFault}
+use Rattle.format.specs.Records.{Rec, start}
+use Rattle.format.specs.Decode.{part, decode, Piece, task-piece, frame-piece}
 use Rattle.image.specs.Verdict.{first-frame}
-use Rattle.image.proofs.Checks.{known}
-use Rattle.image.proofs.SecondReading.{Reads, reads-start, no-fault, at-end, more}
+use Rattle.format.proofs.Checks.{known}
+use Rattle.format.proofs.SecondReading.{Reads, reads-start, no-fault, at-end, more}
 
 -- The records left from `at` on have the first frame where all of them have it.
 pub record Sought (xs : List ℕ) (at : ℕ) (rs : List Rec) : Type 0 where

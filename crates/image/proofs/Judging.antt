@@ -22,12 +22,12 @@ use Rattle.plan.specs.declared.call.Call.{Call}
 use Rattle.plan.specs.Ledger.{plan, refusal-of, after}
 use Rattle.plan.proofs.Reach.{after-fits}
 use Rattle.plan.proofs.Keep.{promise}
-use Rattle.image.specs.declared.fault.RecordFault.{RecordFault}
-use Rattle.image.specs.declared.fault.PlanFault.{PlanFault}
-use Rattle.image.specs.declared.fault.PlanFault.the-variants.{Record, Refused}
-use Rattle.image.specs.Records.{Rec}
-use Rattle.image.specs.Decode.{decode, frames-in}
-use Rattle.image.specs.Fills.{taken, entered, filled, Kept-again}
+use Rattle.format.specs.declared.fault.RecordFault.{RecordFault}
+use Rattle.format.specs.declared.fault.PlanFault.{PlanFault}
+use Rattle.format.specs.declared.fault.PlanFault.the-variants.{Record, Refused}
+use Rattle.format.specs.Records.{Rec}
+use Rattle.format.specs.Decode.{decode, frames-in}
+use Rattle.format.specs.Fills.{taken, entered, filled, Kept-again}
 use Rattle.image.specs.Verdict.{first-frame, busy-or-zero, over-plan, over-train, over-records, judged, Yes-means}
 
 abbrev Taken : Type 0

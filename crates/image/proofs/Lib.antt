@@ -1,17 +1,3 @@
-pub mod BigEndian
-pub mod Fields
-pub mod RecordBytes
-pub mod Front
-pub mod RoundTrip
-pub mod Passes
-pub mod Checks
-pub mod SecondReading
-pub mod TakingFrames
 pub mod OneCall
-pub mod EnteringTasks
 pub mod FirstFrame
 pub mod Judging
-pub mod Places
-pub mod WriteTurns
-pub mod ReadsAgain
-pub mod WritesAgain

@@ -17,15 +17,15 @@ use Rattle.loads.specs.Refusals.{number, late-pair}
 use Rattle.loads.specs.Channels.{Channels, blank}
 use Rattle.loads.specs.Train.{train-meaning}
 use Rattle.plan.specs.Ledger.{plan, refusal-of}
-use Rattle.image.specs.declared.fault.RecordFault.{RecordFault}
-use Rattle.image.specs.declared.fault.PlanFault.{PlanFault}
-use Rattle.image.specs.declared.fault.PlanFault.the-variants.{Record, Refused}
+use Rattle.format.specs.declared.fault.RecordFault.{RecordFault}
+use Rattle.format.specs.declared.fault.PlanFault.{PlanFault}
+use Rattle.format.specs.declared.fault.PlanFault.the-variants.{Record, Refused}
 use Rattle.image.specs.declared.outcome.Outcome.{Outcome}
 use Rattle.image.specs.declared.outcome.Outcome.the-variants as outcome
-use Rattle.image.specs.Faults.{plan-fault}
-use Rattle.image.specs.Records.{Rec, task-rec, frame-rec}
-use Rattle.image.specs.Decode.{decode, frames-in}
-use Rattle.image.specs.Fills.{entered}
+use Rattle.format.specs.Faults.{plan-fault}
+use Rattle.format.specs.Records.{Rec, task-rec, frame-rec}
+use Rattle.format.specs.Decode.{decode, frames-in}
+use Rattle.format.specs.Fills.{entered}
 
 -- The offset of the first frame among records from `at` on, or of their end.
 abbrev pub first-frame : ℕ → List Rec → ℕ

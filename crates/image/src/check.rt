@@ -1,17 +1,17 @@
 ghost use mathlib.Core.Path.{_≡_};
 ghost use lib.ListN.{length};
-ghost use Rattle.image.specs.Records.{task-rec, frame-rec, task-in, frame-in};
-ghost use Rattle.image.specs.Decode.{decode, passed, rec-in};
-ghost use Rattle.image.specs.Parts.{piece, offset, Whole, outcome};
-use crate::before::Before;
-use crate::fault::ImageFault;
-use crate::fault::RecordFault;
-use crate::fault::RecordFromImage;
-use crate::part::Part;
+ghost use Rattle.format.specs.Records.{task-rec, frame-rec, task-in, frame-in};
+ghost use Rattle.format.specs.Decode.{decode, passed, rec-in};
+ghost use Rattle.format.specs.Parts.{piece, offset, Whole, outcome};
 use crate::read::made_frame;
 use crate::read::next_part;
 use crate::read::size_of;
 use crate::read_task::made_task;
+use format::before::Before;
+use format::fault::ImageFault;
+use format::fault::RecordFault;
+use format::fault::RecordFromImage;
+use format::part::Part;
 use loads::refusal::Refusal;
 use plan::label::is_label;
 

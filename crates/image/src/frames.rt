@@ -6,16 +6,16 @@ ghost use Rattle.std.specs.declared.option.Option.the-variants.{None};
 ghost use Rattle.std.specs.declared.result.Result.the-variants.{Ok};
 ghost use Rattle.loads.specs.Making.{frame-refusal};
 ghost use Rattle.loads.specs.Train.{frames-of};
-ghost use Rattle.image.specs.Records.{frame-in};
-ghost use Rattle.image.specs.Decode.{decode};
-ghost use Rattle.image.specs.Fills.{taken, Frames-then};
+ghost use Rattle.format.specs.Records.{frame-in};
+ghost use Rattle.format.specs.Decode.{decode};
+ghost use Rattle.format.specs.Fills.{taken, Frames-then};
 use crate::check::check;
-use crate::fault::RecordFault;
-use crate::fault::RecordFromImage;
-use crate::part::Part;
 use crate::read::made_frame;
 use crate::read::next_part;
 use crate::read::size_of;
+use format::fault::RecordFault;
+use format::fault::RecordFromImage;
+use format::part::Part;
 use loads::train::RampTrain;
 
 /// Adds the frame of a record that has passed its checks at the end of a train with room for it.

@@ -1,7 +1,7 @@
 ghost use mathlib.Core.Path.{_≡_};
 ghost use lib.ListN.{length};
 ghost use Rattle.loads.specs.Making.{made-task, task-made};
-ghost use Rattle.image.specs.Records.{params-in};
+ghost use Rattle.format.specs.Records.{params-in};
 use crate::read::number2;
 use crate::read::number4;
 use loads::refusal::Refusal;

@@ -5,11 +5,9 @@ ghost use Rattle.theory.specs.Meaning.{later as later-of};
 pub fn later(a: Option<u64>, b: Option<u64>) -> Option<u64>
     ensures { λ r. ⌜ r ≡ later-of a b ⌝ }
 {
-    match a {
-        None => b,
-        Some(a) => match b {
-            None => Some(a),
-            Some(b) => Some(a.max(b)),
-        },
+    match (a, b) {
+        (Some(s), Some(t)) => Some(s.max(t)),
+        (Some(s), None) => Some(s),
+        (None, t) => t,
     }
 }

@@ -6,10 +6,10 @@ use Rattle.std.proofs.shelf.Results.{err-from-errBy}
 use Rattle.std.specs.declared.result.Result.the-variants.{Ok}
 use Rattle.std.specs.declared.option.Option.{Option}
 use Rattle.std.specs.declared.option.Option.the-variants.{Some, None}
-use Rattle.image.specs.declared.part.Part.{Part}
-use Rattle.image.specs.Decode.{part, decode}
-use Rattle.image.specs.Parts.{shown, piece, outcome}
-use Rattle.image.proofs.Checks.{stops, fails, ends, trails, goes, part-known}
+use Rattle.format.specs.declared.part.Part.{Part}
+use Rattle.format.specs.Decode.{part, decode}
+use Rattle.format.specs.Parts.{shown, piece, outcome}
+use Rattle.format.proofs.Checks.{stops, fails, ends, trails, goes, part-known}
 use Rattle.image.proofs.check.check.Needs as need
 
 pub loop-part-holds : need.loop-part-holds

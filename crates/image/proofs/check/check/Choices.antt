@@ -1,9 +1,9 @@
 use mathlib.Core.Path.{_≡_}
 use Prim.Native.Nat.{ℕ, _+_, _-_, _<_, _≤_}
 use lib.ListN.{length}
-use Rattle.image.specs.Decode.{decode}
-use Rattle.image.specs.Parts.{outcome}
-use Rattle.image.proofs.Checks.{Left}
+use Rattle.format.specs.Decode.{decode}
+use Rattle.format.specs.Parts.{outcome}
+use Rattle.format.proofs.Checks.{Left}
 use Rattle.image.proofs.check.check.Given as given
 
 abbrev pub Inv-loop-part : given.InvT-loop-part

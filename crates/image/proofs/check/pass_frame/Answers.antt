@@ -1,6 +1,6 @@
 use native.Mathlib.Omega.{arith}
-use Rattle.image.specs.Records.{frame-in}
-use Rattle.image.proofs.Passes.{frame-err}
+use Rattle.format.specs.Records.{frame-in}
+use Rattle.format.proofs.Passes.{frame-err}
 use Rattle.image.proofs.check.pass_frame.Needs as need
 
 pub returns-in-Err : need.returns-in-Err

@@ -1,6 +1,6 @@
 use mathlib.Core.Path.{sym, _∙_}
 use native.Mathlib.Omega.{arith}
-use Rattle.image.proofs.Passes.{pass-ok, pass-err}
+use Rattle.format.proofs.Passes.{pass-ok, pass-err}
 use Rattle.image.proofs.check.pass_task.Needs as need
 
 pub returns-in-Ok : need.returns-in-Ok

@@ -2,7 +2,7 @@ use mathlib.Core.List.{[], _∷_}
 use lib.ListN.{getD}
 use Rattle.plan.specs.declared.call.Call.the-variants.{Admit}
 use Rattle.plan.specs.Ledger.{ledger}
-use Rattle.image.proofs.EnteringTasks.{entered-ok, entered-err}
+use Rattle.format.proofs.EnteringTasks.{entered-ok, entered-err}
 use Rattle.image.proofs.fill.enter.Needs as need
 
 pub returns-in-Ok : need.returns-in-Ok

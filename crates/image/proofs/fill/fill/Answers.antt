@@ -10,13 +10,13 @@ use Rattle.std.specs.declared.option.Option.the-variants.{Some, None}
 use Rattle.theory.specs.Meaning.{Meaning}
 use Rattle.plan.specs.declared.plan.Plan.{Plan}
 use Rattle.plan.specs.Ledger.{ledger}
-use Rattle.image.specs.declared.part.Part.{Part}
-use Rattle.image.specs.Records.{size}
-use Rattle.image.specs.Decode.{part, rec-in}
-use Rattle.image.specs.Parts.{shown-record, raised, piece}
-use Rattle.image.specs.Fills.{Reached}
-use Rattle.image.proofs.EnteringTasks.{Entering, entering-start, entering-fault, entering-end, frame-passed, task-whole, task-refused, task-entered, reached-more, kept-again, not-read, Says}
-use Rattle.image.proofs.WritesAgain.{writes-again}
+use Rattle.format.specs.declared.part.Part.{Part}
+use Rattle.format.specs.Records.{size}
+use Rattle.format.specs.Decode.{part, rec-in}
+use Rattle.format.specs.Parts.{shown-record, raised, piece}
+use Rattle.format.specs.Fills.{Reached}
+use Rattle.format.proofs.EnteringTasks.{Entering, entering-start, entering-fault, entering-end, frame-passed, task-whole, task-refused, task-entered, reached-more, kept-again, not-read, Says}
+use Rattle.format.proofs.WritesAgain.{writes-again}
 use Rattle.image.proofs.fill.fill.Given as given
 use Rattle.image.proofs.fill.fill.Needs as need
 use Rattle.image.proofs.fill.fill.Needs.{in-Task·in-Continue-enter, in-Frame}

@@ -2,7 +2,7 @@ use mathlib.Core.Path.{_≡_}
 use Prim.Native.Nat.{_-_, _≤_}
 use lib.ListN.{length}
 use Rattle.plan.specs.Ledger.{ledger}
-use Rattle.image.proofs.EnteringTasks.{Entering}
+use Rattle.format.proofs.EnteringTasks.{Entering}
 use Rattle.image.proofs.fill.fill.Given as given
 
 -- The guest stays, and what was entered so far leads to the filling of the whole image.

@@ -7,11 +7,11 @@ use Rattle.std.specs.declared.option.Option.{Option}
 use Rattle.std.specs.declared.option.Option.the-variants.{Some, None}
 use Rattle.loads.specs.Train.{frames-of}
 use Rattle.loads.specs.declared.train.RampTrain.{RampTrain}
-use Rattle.image.specs.declared.part.Part.{Part}
-use Rattle.image.specs.Records.{size}
-use Rattle.image.specs.Decode.{part, rec-in}
-use Rattle.image.specs.Parts.{shown, piece}
-use Rattle.image.proofs.TakingFrames.{Taking, taking-start, taking-fault, taking-end, frame-whole, frame-refused, frame-taken, task-passed}
+use Rattle.format.specs.declared.part.Part.{Part}
+use Rattle.format.specs.Records.{size}
+use Rattle.format.specs.Decode.{part, rec-in}
+use Rattle.format.specs.Parts.{shown, piece}
+use Rattle.format.proofs.TakingFrames.{Taking, taking-start, taking-fault, taking-end, frame-whole, frame-refused, frame-taken, task-passed}
 use Rattle.image.proofs.frames.take_frames.Needs as need
 use Rattle.image.proofs.frames.take_frames.Needs.{in-Frame·in-Continue-add-frame, in-Task}
 

@@ -1,7 +1,7 @@
 use Prim.Native.Nat.{_-_, _≤_}
 use lib.ListN.{length}
 use Rattle.loads.specs.Train.{frames-of}
-use Rattle.image.proofs.TakingFrames.{Taking}
+use Rattle.format.proofs.TakingFrames.{Taking}
 use Rattle.image.proofs.frames.take_frames.Given as given
 
 -- The frames taken so far, with those of the records that are left, are those of the image.

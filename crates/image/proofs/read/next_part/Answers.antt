@@ -3,7 +3,7 @@ use native.Mathlib.Omega.{arith}
 use lib.ListN.{length-drop}
 use lib.Seq.{getD-drop}
 use Rattle.std.proofs.shelf.Ways.{tells}
-use Rattle.image.specs.Decode.{part}
+use Rattle.format.specs.Decode.{part}
 use Rattle.image.proofs.read.next_part.Needs as need
 
 pub returns-then-at-image : need.returns-then-at-image

@@ -1,5 +1,5 @@
 use mathlib.Core.Path.{_∙_, sym}
-use Rattle.image.proofs.Fields.{field-2}
+use Rattle.format.proofs.Fields.{field-2}
 use Rattle.image.proofs.read.number2.Needs as need
 
 pub returns : need.returns

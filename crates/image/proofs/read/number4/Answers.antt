@@ -1,5 +1,5 @@
 use mathlib.Core.Path.{_∙_, sym}
-use Rattle.image.proofs.Fields.{field-4}
+use Rattle.format.proofs.Fields.{field-4}
 use Rattle.image.proofs.read.number4.Needs as need
 
 pub returns : need.returns

@@ -4,9 +4,9 @@ use lib.ListN.{drop}
 use Rattle.std.specs.declared.result.Result.the-variants.{Ok}
 use Rattle.std.specs.declared.option.Option.{Option}
 use Rattle.std.specs.declared.option.Option.the-variants.{Some}
-use Rattle.image.specs.declared.part.Part.{Part}
-use Rattle.image.specs.Decode.{part}
-use Rattle.image.specs.Parts.{shown}
+use Rattle.format.specs.declared.part.Part.{Part}
+use Rattle.format.specs.Decode.{part}
+use Rattle.format.specs.Parts.{shown}
 use Rattle.image.proofs.FirstFrame.{seek-start, seek-task, seek-frame, seek-end, seek-fault}
 use Rattle.image.proofs.verdict.first_frame_in.Needs as need
 

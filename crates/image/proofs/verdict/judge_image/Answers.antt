@@ -8,7 +8,7 @@ use Rattle.std.specs.declared.result.Result.the-variants.{Ok, Err}
 use Rattle.loads.specs.Train.{frames-of}
 use Rattle.loads.proofs.TrainRanges.{frames-ranged}
 use Rattle.plan.specs.Ledger.{ledger}
-use Rattle.image.specs.declared.fault.PlanFault.{PlanFault}
+use Rattle.format.specs.declared.fault.PlanFault.{PlanFault}
 use Rattle.image.specs.Verdict.{Yes-means}
 use Rattle.image.proofs.Judging.{unread, was-read, train-refused, task-refused, all-entered, yes-holds}
 use Rattle.image.proofs.verdict.judge_image.Needs as need

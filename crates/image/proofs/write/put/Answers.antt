@@ -1,4 +1,4 @@
-use Rattle.image.proofs.Places.{put-placed}
+use Rattle.format.proofs.Places.{put-placed}
 use Rattle.image.proofs.write.put.Needs as need
 
 pub returns : need.returns

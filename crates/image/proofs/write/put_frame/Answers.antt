@@ -2,8 +2,8 @@ use mathlib.Core.Path.{_≡_, refl, sym, _∙_, ap}
 use mathlib.Core.List.{List, [], _∷_, _++_}
 use native.Mathlib.Omega.{arith}
 use Prim.Native.Nat.{ℕ, _+_}
-use Rattle.image.specs.Bytes.{bytes}
-use Rattle.image.proofs.Places.{chain, be-4}
+use Rattle.format.specs.Bytes.{bytes}
+use Rattle.format.proofs.Places.{chain, be-4}
 use Rattle.image.proofs.write.put_frame.Needs as need
 
 pub returns : need.returns

@@ -4,11 +4,11 @@ use native.Mathlib.Nat.{add-zero}
 use native.Mathlib.Omega.{arith}
 use Prim.Native.Nat.{ℕ, _+_, _≤_}
 use lib.ListN.{length, length-append, drop}
-use Rattle.image.specs.Records.{frame-bytes}
+use Rattle.format.specs.Records.{frame-bytes}
 use Rattle.loads.specs.Making.{frame-params}
-use Rattle.image.specs.Writes.{placed}
-use Rattle.image.proofs.Places.{chain, placed-none, room}
-use Rattle.image.proofs.WriteTurns.{of-frames, frame-next, turn, frames-end}
+use Rattle.format.specs.Writes.{placed}
+use Rattle.format.proofs.Places.{chain, placed-none, room}
+use Rattle.format.proofs.WriteTurns.{of-frames, frame-next, turn, frames-end}
 use Rattle.image.proofs.write.put_frames.Needs as need
 
 pub loop-i-holds : need.loop-i-holds

@@ -2,8 +2,8 @@ use mathlib.Core.Path.{_≡_}
 use mathlib.Core.List.{List, _++_}
 use Prim.Native.Nat.{ℕ, _+_, _≤_}
 use lib.ListN.{length, drop}
-use Rattle.image.specs.Writes.{placed}
-use Rattle.image.proofs.WriteTurns.{of-frames}
+use Rattle.format.specs.Writes.{placed}
+use Rattle.format.proofs.WriteTurns.{of-frames}
 use Rattle.image.proofs.write.put_frames.Given as given
 
 -- What is written and what is left make up the whole.

@@ -3,12 +3,12 @@ use mathlib.Core.List.{List, [], _∷_, _++_, append-assoc}
 use native.Mathlib.Omega.{arith}
 use Prim.Native.Nat.{ℕ, _+_}
 use lib.ListN.{length, length-append}
-use Rattle.image.specs.Bytes.{bytes}
-use Rattle.image.specs.Records.{task-bytes}
-use Rattle.image.specs.Encode.{placed-in}
+use Rattle.format.specs.Bytes.{bytes}
+use Rattle.format.specs.Records.{task-bytes}
+use Rattle.format.specs.Encode.{placed-in}
 use Rattle.loads.specs.Channels.{content}
-use Rattle.image.specs.Writes.{placed}
-use Rattle.image.proofs.Places.{chain, be-4, be-2, be-1}
+use Rattle.format.specs.Writes.{placed}
+use Rattle.format.proofs.Places.{chain, be-4, be-2, be-1}
 use Rattle.image.proofs.write.put_task.Needs as need
 
 pub returns : need.returns

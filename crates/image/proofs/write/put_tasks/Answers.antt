@@ -6,11 +6,11 @@ use Prim.Native.Nat.{ℕ, _+_, _≤_, _<_}
 use lib.ListN.{length, length-append, drop}
 use Rattle.loads.specs.Channels.{content}
 use Rattle.plan.specs.Ledger.{ledger}
-use Rattle.image.specs.Records.{task-bytes}
-use Rattle.image.specs.Encode.{placed-in}
-use Rattle.image.specs.Writes.{placed, tasks-bytes}
-use Rattle.image.proofs.Places.{chain, placed-none, room}
-use Rattle.image.proofs.WriteTurns.{channels-length, read-some, read-none, task-next, none-next, turn, tasks-end, length-task}
+use Rattle.format.specs.Records.{task-bytes}
+use Rattle.format.specs.Encode.{placed-in}
+use Rattle.format.specs.Writes.{placed, tasks-bytes}
+use Rattle.format.proofs.Places.{chain, placed-none, room}
+use Rattle.format.proofs.WriteTurns.{channels-length, read-some, read-none, task-next, none-next, turn, tasks-end, length-task}
 use Rattle.image.proofs.write.put_tasks.Needs as need
 use Rattle.image.proofs.write.put_tasks.Needs.{in-Ok, in-Err}
 

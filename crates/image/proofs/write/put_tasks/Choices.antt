@@ -3,7 +3,7 @@ use mathlib.Core.List.{List, _++_}
 use Prim.Native.Nat.{ℕ, _+_, _≤_}
 use lib.ListN.{length, drop}
 use Rattle.plan.specs.Ledger.{ledger}
-use Rattle.image.specs.Writes.{placed, tasks-bytes}
+use Rattle.format.specs.Writes.{placed, tasks-bytes}
 use Rattle.image.proofs.write.put_tasks.Given as given
 
 -- What is written and what is left make up the whole.

@@ -5,10 +5,10 @@ use lib.ListN.{length, length-append, drop}
 use Rattle.std.proofs.shelf.Lists.{at-drop-all}
 use Rattle.loads.specs.Channels.{content}
 use Rattle.plan.specs.Ledger.{ledger}
-use Rattle.image.specs.Records.{task-bytes}
-use Rattle.image.specs.Encode.{placed-in}
-use Rattle.image.specs.Writes.{tasks-bytes}
-use Rattle.image.proofs.WriteTurns.{channels-length, read-some, read-none, task-next, none-next, length-task}
+use Rattle.format.specs.Records.{task-bytes}
+use Rattle.format.specs.Encode.{placed-in}
+use Rattle.format.specs.Writes.{tasks-bytes}
+use Rattle.format.proofs.WriteTurns.{channels-length, read-some, read-none, task-next, none-next, length-task}
 use Rattle.image.proofs.write.tasks_len.Needs as need
 use Rattle.image.proofs.write.tasks_len.Needs.{in-Ok, in-Err}
 

@@ -2,7 +2,7 @@ use mathlib.Core.Path.{_≡_}
 use Prim.Native.Nat.{_+_, _*_, _≤_}
 use lib.ListN.{length, drop}
 use Rattle.plan.specs.Ledger.{ledger}
-use Rattle.image.specs.Writes.{tasks-bytes}
+use Rattle.format.specs.Writes.{tasks-bytes}
 use Rattle.image.proofs.write.tasks_len.Given as given
 
 -- What is counted and what is left make up the whole.

@@ -14,12 +14,12 @@ use Rattle.loads.specs.Channels.{Channels, blank}
 use Rattle.loads.proofs.TrainRanges.{frames-ranged}
 use Rattle.plan.specs.declared.call.Call.{Call}
 use Rattle.plan.specs.Ledger.{ledger, after}
-use Rattle.image.specs.Encode.{encode}
-use Rattle.image.specs.Writes.{placed, written, tasks-bytes, frames-bytes}
-use Rattle.image.specs.Statements.{Reads-again}
-use Rattle.image.proofs.ReadsAgain.{reads-again}
-use Rattle.image.proofs.Places.{chain}
-use Rattle.image.proofs.WriteTurns.{of-frames, encode-parts, length-frames, length-encode, written-short, written-all}
+use Rattle.format.specs.Encode.{encode}
+use Rattle.format.specs.Writes.{placed, written, tasks-bytes, frames-bytes}
+use Rattle.format.specs.Statements.{Reads-again}
+use Rattle.format.proofs.ReadsAgain.{reads-again}
+use Rattle.format.proofs.Places.{chain}
+use Rattle.format.proofs.WriteTurns.{of-frames, encode-parts, length-frames, length-encode, written-short, written-all}
 use Rattle.image.proofs.write.write.Needs as need
 
 -- A train has at most sixteen frames, in range.

@@ -1,0 +1,14 @@
+pub mod BigEndian
+pub mod Fields
+pub mod RecordBytes
+pub mod Front
+pub mod RoundTrip
+pub mod Passes
+pub mod Checks
+pub mod SecondReading
+pub mod TakingFrames
+pub mod EnteringTasks
+pub mod ReadsAgain
+pub mod WritesAgain
+pub mod Places
+pub mod WriteTurns

@@ -1,0 +1,10 @@
+pub mod Bytes
+pub mod Faults
+pub mod Records
+pub mod Decode
+pub mod Encode
+pub mod Parts
+pub mod Fills
+pub mod Writes
+pub mod Statements
+pub mod Examples

@@ -1,6 +1,0 @@
-use Rattle.image.proofs.BigEndian.{value-bytes, bytes-value}
-use Rattle.image.proofs.RoundTrip.{reads-back, writes-back}
-use Rattle.image.proofs.theorems.format_keeps.Needs as need
-
-pub returns : need.returns
-returns c = record { numbers = (value-bytes, bytes-value); back = reads-back; forth = writes-back }

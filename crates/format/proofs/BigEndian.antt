@@ -1,12 +1,11 @@
 -- Numbers and their bytes.
 use mathlib.Core.Path.{_≡_, refl, sym, ap, ap₂, _∙_}
-use mathlib.Core.List.{List, [], _∷_, _++_}
+use mathlib.Core.List.{List, [], _∷_}
 use Prim.Native.Nat.{ℕ, zero, suc, _+_, _*_, _/_, _%_, _^_, _≤_, _<_}
 use native.Mathlib.Nat.{pow-suc, mul-comm, mod-lt, mod-eq-of-lt, one-le-pow}
 use native.Mathlib.Omega.{arith}
 use lib.ListN.{length, take, drop, length-take, length-drop}
 use lib.Arith.{mod-mul, digits-div, digits-mod, digits-lt}
-use Rattle.std.specs.shelf.Lists.{All}
 use Rattle.std.proofs.shelf.Elements.{all-take, all-drop}
 use Rattle.format.specs.Bytes.{bytes, value, Bytes}
 use Rattle.format.specs.Records.{field}

@@ -1,9 +1,9 @@
 -- One turn of the check, by what stands at the front.
-use mathlib.Core.Path.{_≡_, refl, sym, ap, subst, _∙_}
+use mathlib.Core.Path.{_≡_, refl, sym, ap, _∙_}
 use mathlib.Core.List.{List, [], _∷_}
 use Prim.Native.Nat.{ℕ, zero, suc, _+_, _<_, _≤_}
 use native.Mathlib.Omega.{arith}
-use lib.ListN.{length, take, drop, length-take, length-drop}
+use lib.ListN.{length, drop, length-take, length-drop}
 use Rattle.std.proofs.shelf.Lists.{drop-drop}
 use Rattle.std.specs.declared.option.Option.{Option}
 use Rattle.std.specs.declared.option.Option.the-variants.{Some, None}
@@ -11,11 +11,11 @@ use Rattle.std.specs.declared.result.Result.{Result}
 use Rattle.std.specs.declared.result.Result.the-variants.{Ok, Err}
 use Rattle.format.specs.declared.before.Before.{Before}
 use Rattle.format.specs.declared.fault.ImageFault.{ImageFault}
-use Rattle.format.specs.declared.fault.ImageFault.the-variants.{Cut, Trailing}
+use Rattle.format.specs.declared.fault.ImageFault.the-variants.{Trailing}
 use Rattle.format.specs.declared.fault.RecordFault.{RecordFault}
 use Rattle.format.specs.declared.fault.RecordFault.the-variants.{Image}
-use Rattle.format.specs.Records.{Rec, size, start}
-use Rattle.format.specs.Decode.{part, ended, with-rest, passed, records, decode, Piece, task-piece, frame-piece, rec-in}
+use Rattle.format.specs.Records.{Rec, size}
+use Rattle.format.specs.Decode.{part, ended, with-rest, passed, records, Piece, rec-in}
 use Rattle.format.specs.Parts.{offset, Whole, outcome}
 use Rattle.format.proofs.Front.{next, checked, records-next, part-cases}
 

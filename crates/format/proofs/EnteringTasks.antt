@@ -1,8 +1,8 @@
 -- Admitting the tasks of an image that has passed the check.
-use mathlib.Core.Path.{_≡_, refl, sym, ap, ap₂, subst, _∙_}
+use mathlib.Core.Path.{_≡_, refl, sym, ap, _∙_}
 use mathlib.Core.Bool.{Bool, true, false, cond, _&&_}
 use mathlib.Core.List.{List, [], _∷_, _++_}
-use Prim.Native.Nat.{ℕ, _+_, _<_, _≤_}
+use Prim.Native.Nat.{ℕ, _+_, _≤_}
 use native.Mathlib.Omega.{arith}
 use lib.Dec.{leb, eqb}
 use lib.ListN.{length, getD, set, take, drop}
@@ -27,7 +27,7 @@ use Rattle.format.specs.declared.fault.RecordFault.{RecordFault}
 use Rattle.format.specs.declared.fault.RecordFault.the-variants as in-record
 use Rattle.format.specs.declared.fault.PlanFault.{PlanFault}
 use Rattle.format.specs.declared.fault.PlanFault.the-variants.{Record, Refused}
-use Rattle.format.specs.Records.{Rec, task-rec, frame-rec, TaskRec, start, after as after-record, fault, out-of-range, field, params-in, task-in}
+use Rattle.format.specs.Records.{Rec, task-rec, TaskRec, start, fault, out-of-range, field, params-in, task-in}
 use Rattle.format.specs.Decode.{part, decode, Piece, task-piece, frame-piece}
 use Rattle.format.specs.Parts.{outcome, raised}
 use Rattle.format.specs.Fills.{ranged, content-made, one-entered, entered, filled, Reached, Kept-again}
@@ -49,10 +49,6 @@ by-answer at t l r = elim r [ Err e ↦ (Err (Refused e at), l) | Ok u ↦ (Ok t
 made-is : (o : Option Refusal) (label : List ℕ) (p : TaskParams) (k : Content) (i : ℕ) → _≡_ {A = Result Content RecordFault} (Ok k) (ranged i (content-made label (unless o p))) → k ≡ (record { label = label; params = p })
 made-is None label p k i e = cc
 made-is (Some x) label p k i e = cc
-
-pub made-never : {A : Type 0} (o : Option Refusal) (label : List ℕ) (p : TaskParams) (i : ℕ) (e : RecordFault) → _≡_ {A = Result Content RecordFault} (Err e) (ranged i (content-made label (unless o p))) → o ≡ None → A
-made-never None label p i e q n = let z : _≡_ {A = ℕ} 0 1 = cc in absurd (omega arith)
-made-never (Some x) label p i e q n = let z : _≡_ {A = ℕ} 0 1 = cc in absurd (omega arith)
 
 module _ (g : Meaning) (bytes : List ℕ) (at : ℕ) (l m : Channels) (long : length bytes ≡ 37) (entry : Entry)
     (made : Ok (content entry) ≡ ranged at (content-made (take 16 (drop 2 bytes)) (made-task (params-in bytes))))

@@ -1,29 +1,25 @@
 -- What stands at the front of an image, and one step of the reading.
 use mathlib.Core.Path.{_≡_, refl, sym, ap, ap₂, subst, _∙_}
-use mathlib.Core.List.{List, [], _∷_, _++_, append-assoc, map}
-use mathlib.Core.Bool.{Bool, true, false, cond, _&&_}
-use Prim.Native.Nat.{ℕ, zero, suc, _+_, _≤_, _<_, _^_}
+use mathlib.Core.List.{List, [], _∷_, _++_}
+use mathlib.Core.Bool.{Bool, true, false, cond}
+use Prim.Native.Nat.{ℕ, suc, _+_, _≤_}
 use native.Mathlib.Omega.{arith}
-use lib.Dec.{leb, ltb, eqb}
-use lib.ListN.{length, getD, take, drop, length-append}
-use Rattle.std.specs.Joined.{joined}
-use Rattle.std.specs.shelf.Lists.{All}
-use Rattle.std.proofs.shelf.Elements.{all-drop}
-use Rattle.std.proofs.shelf.Lists.{drop-at, take-at}
-use Rattle.std.proofs.shelf.Ways.{tells}
-use Rattle.std.proofs.shelf.Tests.{le-leb, leb-true, and-parts, eqb-true, cond-true, lt-ltb}
+use lib.Dec.{leb, eqb}
+use lib.ListN.{length, take, drop, length-append}
+use Rattle.std.proofs.shelf.Lists.{take-at}
+use Rattle.std.proofs.shelf.Tests.{le-leb, leb-true, and-parts, eqb-true, cond-true}
 use Rattle.std.specs.declared.option.Option.{Option}
 use Rattle.std.specs.declared.option.Option.the-variants.{Some, None}
 use Rattle.std.specs.declared.result.Result.{Result}
 use Rattle.std.specs.declared.result.Result.the-variants.{Ok, Err}
 use Rattle.format.specs.declared.fault.ImageFault.{ImageFault}
-use Rattle.format.specs.declared.fault.ImageFault.the-variants.{UnknownMark, Cut, Trailing}
+use Rattle.format.specs.declared.fault.ImageFault.the-variants.{UnknownMark, Cut}
 use Rattle.format.specs.declared.fault.RecordFault.{RecordFault}
 use Rattle.format.specs.declared.fault.RecordFault.the-variants.{Image}
 use Rattle.format.specs.declared.before.Before.{Before}
-use Rattle.format.specs.Bytes.{bytes, value, Bytes}
+use Rattle.format.specs.Bytes.{Bytes}
 use Rattle.loads.specs.Params.{FrameParams}
-use Rattle.format.specs.Records.{Rec, task-rec, frame-rec, TaskRec, rec-bytes, task-bytes, frame-bytes, size, task-in, frame-in, after}
+use Rattle.format.specs.Records.{Rec, task-rec, frame-rec, TaskRec, rec-bytes, task-bytes, frame-bytes, size}
 use Rattle.format.specs.Decode.{marked, whole, part, ended, with-rest, passed, records, Piece, task-piece, frame-piece, rec-in}
 use Rattle.format.proofs.RecordBytes.{task-written, frame-written, frame-back, Task-fits, Frame-fits, Fits, length-rec, task-own, task-in-take, frame-in-take}
 

@@ -1,10 +1,10 @@
 -- Writing over a slice, one part after another.
-use mathlib.Core.Path.{_≡_, refl, sym, ap, ap₂, subst, _∙_}
-use mathlib.Core.List.{List, [], _∷_, _++_, append-assoc}
-use Prim.Native.Nat.{ℕ, suc, _+_, _-_, _/_, _%_, _<_, _≤_}
+use mathlib.Core.Path.{_≡_, refl, sym, ap, _∙_}
+use mathlib.Core.List.{List, [], _∷_, _++_}
+use Prim.Native.Nat.{ℕ, _+_, _-_, _/_, _%_, _<_, _≤_}
 use native.Mathlib.Nat.{div-one, add-sub-cancel-left}
 use native.Mathlib.Omega.{arith}
-use lib.ListN.{length, take, drop, length-append, length-take, length-drop}
+use lib.ListN.{length, take, drop, length-append}
 use lib.Seq.{paste}
 use borrow.Rule.Slice.PartMut.{putMid}
 use Rattle.std.proofs.shelf.Edits.{paste-all, paste-paste, paste-none}
@@ -17,9 +17,6 @@ is-paste out at xs n e = paste-all out at xs n e ∙ ap (λ (k : ℕ). take at o
 
 pub put-placed : (out : List ℕ) (at : ℕ) (xs ys : List ℕ) → ys ≡ xs → putMid at ((at + length xs) - at) out ys ≡ placed out at xs
 put-placed out at xs ys e = putMid-paste at ((at + length xs) - at) out ys xs (length xs) e (sym (add-sub-cancel-left at (length xs))) refl ∙ is-paste out at xs (length xs) refl
-
-pub length-placed : (out : List ℕ) (at : ℕ) (xs : List ℕ) → at + length xs ≤ length out → length (placed out at xs) ≡ length out
-length-placed out at xs h = simp (length-append, length-take, length-drop) (omega arith)
 
 placed-more : (out : List ℕ) (at k : ℕ) (xs ys : List ℕ) → k ≡ length xs → at ≤ length out → placed (placed out at xs) (at + k) ys ≡ placed out at (xs ++ ys)
 placed-more out at k xs ys e h =

@@ -1,9 +1,9 @@
 -- A plan that calls can reach comes back from its own image.
 use mathlib.Core.Path.{_≡_, refl, sym, ap, subst, _∙_}
 use mathlib.Core.Logic.{_⊎_, inl, inr}
-use mathlib.Core.Bool.{Bool, true, false, cond}
+use mathlib.Core.Bool.{true, false}
 use mathlib.Core.List.{List, [], _∷_, _++_, map, append-assoc}
-use Prim.Native.Nat.{ℕ, zero, suc, _+_, _≤_, _<_}
+use Prim.Native.Nat.{ℕ, zero, suc, _+_, _≤_}
 use native.Mathlib.Omega.{arith}
 use lib.Dec.{ltb}
 use lib.ListN.{length, getD, set, replicate, length-append, length-set, length-replicate}
@@ -33,7 +33,7 @@ use Rattle.format.specs.Records.{Rec, TaskRec, task-rec, frame-rec}
 use Rattle.format.specs.Decode.{frames-in, decode}
 use Rattle.format.specs.Encode.{placed-in, tasks, contents, encode}
 use Rattle.format.specs.Fills.{taken, entered, filled}
-use Rattle.format.specs.Statements.{Writable-content, Writable-channel, Writable, Reads-again}
+use Rattle.format.specs.Statements.{Writable-channel, Writable, Reads-again}
 use Rattle.format.proofs.RoundTrip.{reads-back}
 
 abbrev Done : Type 0

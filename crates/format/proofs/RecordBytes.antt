@@ -1,14 +1,14 @@
 -- One record: its bytes and what is read of them.
 use mathlib.Core.Path.{_≡_, refl, sym, ap, ap₂, _∙_}
 use mathlib.Core.List.{List, [], _∷_, _++_, append-assoc}
-use Prim.Native.Nat.{ℕ, zero, suc, _+_, _*_, _/_, _%_, _^_, _≤_, _<_}
+use Prim.Native.Nat.{ℕ, _+_, _^_, _≤_, _<_}
 use native.Mathlib.Omega.{arith}
 use lib.ListN.{length, take, drop, length-append}
 use Rattle.std.proofs.shelf.Lists.{take-append-drop, drop-drop, drop-at, take-at, drop-take, take-take, append-nil}
 use Rattle.format.specs.Bytes.{bytes, value, Bytes}
 use Rattle.loads.specs.Params.{FrameParams}
 use Rattle.format.specs.Records.{field, TaskRec, Rec, task-rec, frame-rec, task-bytes, frame-bytes, rec-bytes, size, task-in, frame-in}
-use Rattle.format.proofs.BigEndian.{length-bytes, value-bytes, bytes-field}
+use Rattle.format.proofs.BigEndian.{value-bytes, bytes-field}
 
 chunk : (w i : ℕ) (xs : List ℕ) → take w (drop i xs) ++ drop (i + w) xs ≡ drop i xs
 chunk w i xs = ap (λ (ys : List ℕ). take w (drop i xs) ++ ys) (sym (drop-drop w i xs)) ∙ take-append-drop w (drop i xs)

@@ -1,10 +1,9 @@
 -- The whole image: what is written reads back, and what is read writes back.
-use mathlib.Core.Path.{_≡_, refl, sym, ap, ap₂, subst, _∙_}
+use mathlib.Core.Path.{_≡_, refl, sym, ap, _∙_}
 use mathlib.Core.List.{List, [], _∷_, _++_, append-assoc, map}
-use mathlib.Core.Bool.{Bool, true, false, cond, _&&_}
-use Prim.Native.Nat.{ℕ, zero, suc, _+_, _≤_, _<_, _^_}
+use mathlib.Core.Bool.{true}
+use Prim.Native.Nat.{ℕ, zero, suc, _+_, _≤_, _<_}
 use native.Mathlib.Omega.{arith}
-use lib.Dec.{leb, ltb, eqb}
 use lib.ListN.{length, drop, length-append}
 use Rattle.std.specs.Joined.{joined}
 use Rattle.std.proofs.shelf.Elements.{all-drop}
@@ -15,8 +14,7 @@ use Rattle.std.specs.declared.option.Option.the-variants.{Some, None}
 use Rattle.std.specs.declared.result.Result.{Result}
 use Rattle.std.specs.declared.result.Result.the-variants.{Ok, Err}
 use Rattle.theory.specs.Jobs.{All}
-use Rattle.loads.specs.Params.{TaskParams, FrameParams, Task-ranges, Frame-ranges}
-use Rattle.loads.specs.Making.{task-refusal, frame-refusal}
+use Rattle.loads.specs.Params.{FrameParams, Task-ranges, Frame-ranges}
 use Rattle.loads.specs.Channels.{Content, Channels}
 use Rattle.plan.specs.Labels.{good-label}
 use Rattle.format.specs.declared.fault.RecordFault.{RecordFault}
@@ -26,8 +24,8 @@ use Rattle.format.specs.declared.before.Before.{Before}
 use Rattle.format.specs.Bytes.{Bytes}
 use Rattle.format.specs.Records.{Rec, task-rec, frame-rec, rec-bytes, size, start, after, fault}
 use Rattle.format.specs.Decode.{part, ended, with-rest, passed, records, decode, Piece, rec-in}
-use Rattle.format.specs.Encode.{image, placed-in, put-rec, tasks, contents, encode}
-use Rattle.format.specs.Statements.{Writable-content, Writable}
+use Rattle.format.specs.Encode.{image, placed-in, tasks, contents, encode}
+use Rattle.format.specs.Statements.{Writable}
 use Rattle.format.proofs.RecordBytes.{Fits, length-rec}
 use Rattle.format.proofs.Front.{Read, All-read, Stands, rec-of-piece, part-rec, part-stands, checked, next, records-next}
 

@@ -7,7 +7,6 @@ use native.Mathlib.Nat.{add-zero, add-suc, suc-add, zero-add}
 use native.Mathlib.Omega.{arith}
 use lib.Dec.{leb, eqb}
 use lib.ListN.{length, getD, drop, set, replicate, length-set}
-use Rattle.std.specs.shelf.Lists.{All}
 use Rattle.std.proofs.shelf.Lists.{drop-set-lt, drop-drop, append-nil}
 use Rattle.std.proofs.shelf.Tests.{leb-true, eqb-true}
 use Rattle.std.specs.declared.option.Option.{Option}

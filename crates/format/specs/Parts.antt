@@ -13,7 +13,7 @@ use Rattle.format.specs.declared.fault.RecordFault.{RecordFault}
 use Rattle.format.specs.declared.fault.RecordFault.the-variants.{Image}
 use Rattle.format.specs.declared.part.Part.{Part}
 use Rattle.format.specs.declared.part.Part.the-variants as lent
-use Rattle.format.specs.Records.{Rec, size}
+use Rattle.format.specs.Records.{Rec}
 use Rattle.format.specs.Decode.{Piece, task-piece, frame-piece}
 
 -- A borrowed part, by the bytes that it borrows and their offset.

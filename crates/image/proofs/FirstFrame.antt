@@ -1,17 +1,15 @@
 -- The offset of the first frame, found by passing the tasks before it.
 use mathlib.Core.Path.{_≡_, refl, sym, ap, _∙_}
-use mathlib.Core.List.{List, []}
+use mathlib.Core.List.{List}
 use Prim.Native.Nat.{ℕ, _+_, _≤_}
 use native.Mathlib.Omega.{arith}
 use lib.ListN.{length, drop, length-drop}
-use Rattle.std.specs.declared.option.Option.{Option}
 use Rattle.std.specs.declared.option.Option.the-variants.{Some, None}
-use Rattle.std.specs.declared.result.Result.{Result}
 use Rattle.std.specs.declared.result.Result.the-variants.{Ok, Err}
 use Rattle.format.specs.declared.before.Before.{Before}
 use Rattle.format.specs.declared.fault.ImageFault.{ImageFault}
 use Rattle.format.specs.Records.{Rec, start}
-use Rattle.format.specs.Decode.{part, decode, Piece, task-piece, frame-piece}
+use Rattle.format.specs.Decode.{part, decode, task-piece, frame-piece}
 use Rattle.image.specs.Verdict.{first-frame}
 use Rattle.format.proofs.Checks.{known}
 use Rattle.format.proofs.SecondReading.{Reads, reads-start, no-fault, at-end, more}

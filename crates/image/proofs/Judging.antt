@@ -9,7 +9,7 @@ use Rattle.std.specs.declared.result.Result.{Result}
 use Rattle.std.specs.declared.result.Result.the-variants.{Ok, Err}
 use Rattle.theory.specs.declared.verdict.Unfit.{Unfit}
 use Rattle.theory.specs.Jobs.{All}
-use Rattle.theory.specs.Meaning.{Meaning, Laws}
+use Rattle.theory.specs.Meaning.{Meaning}
 use Rattle.theory.specs.Verdict.{busy, walk, Accepted}
 use Rattle.theory.specs.Statements.{Never-late}
 use Rattle.theory.proofs.Verdicts.{accepted-ok}

@@ -1,5 +1,5 @@
 -- A list of one call: its answer, and the ledger after it.
-use mathlib.Core.Path.{_≡_, refl, sym, ap, subst, _∙_}
+use mathlib.Core.Path.{_≡_, refl, ap, subst, _∙_}
 use mathlib.Core.List.{List, [], _∷_, map}
 use Prim.Native.Nat.{ℕ, _<_}
 use native.Mathlib.Omega.{arith}
@@ -11,7 +11,7 @@ use Rattle.loads.specs.declared.refusal.Refusal.{Refusal}
 use Rattle.plan.specs.declared.call.Call.{Call}
 use Rattle.plan.specs.declared.call.Answer.{Answer}
 use Rattle.plan.specs.declared.call.Answer.the-variants.{Granted, Retired, Found, Refused}
-use Rattle.plan.specs.Ledger.{Ledger, Reply, granted, refused, reply, told, answer-to, answers-to, next, after}
+use Rattle.plan.specs.Ledger.{Ledger, granted, refused, reply, told, answer-to, answers-to, next, after}
 
 pub one-answer : (g : Meaning) (l : Ledger) (k : Call) (n : ℕ) (rs : List Answer) (d : Answer) → n ≡ 1 → 0 < length rs
     → map reply (take n rs) ≡ answers-to g l (take n (k ∷ [])) → reply (getD rs 0 d) ≡ answer-to g l k

@@ -9,7 +9,7 @@ use Rattle.std.specs.declared.option.Option.the-variants.{Some, None}
 use Rattle.std.specs.declared.result.Result.{Result}
 use Rattle.std.specs.declared.result.Result.the-variants.{Ok, Err}
 use Rattle.theory.specs.declared.verdict.Unfit.{Unfit}
-use Rattle.theory.specs.Meaning.{Amounts, Meaning}
+use Rattle.theory.specs.Meaning.{Meaning}
 use Rattle.theory.specs.Verdict.{busy, walk}
 use Rattle.theory.specs.Statements.{Never-late}
 use Rattle.loads.specs.declared.refusal.Refusal.{Refusal}

@@ -1,17 +1,14 @@
 -- The laws of one task.
 use mathlib.Core.Path.{_≡_, refl, sym, ap, _∙_}
-use mathlib.Core.Bool.{Bool, true, false, cond, _&&_}
-use mathlib.Core.List.{List, [], _∷_}
+use mathlib.Core.Bool.{false}
 use mathlib.Core.Logic.{_⊎_, inl, inr}
-use Prim.Native.Nat.{ℕ, suc, zero, _+_, _-_, _*_, _/_, _%_, _≤_, _<_, max}
+use Prim.Native.Nat.{ℕ, _+_, _-_, _*_, _/_, _%_, _≤_, _<_}
 use native.Mathlib.Omega.{arith}
 use native.Mathlib.Nat.{mul-le-mul-left, mul-add, mul-one, zero-mod, add-div-right}
-use lib.Dec.{leb, ltb, eqb}
-use Rattle.std.proofs.shelf.Tests.{cases-lt, cases-eq, lt-ltb, le-ltb, le-leb, lt-leb, eq-eqb, ne-eqb, eqb-false, leb-false, and-left, and-cases}
+use lib.Dec.{leb, eqb}
+use Rattle.std.proofs.shelf.Tests.{cases-lt, cases-eq, lt-ltb, le-ltb, le-leb, lt-leb, ne-eqb, eqb-false, leb-false, and-left, and-cases}
 use Rattle.loads.specs.Params.{TaskParams, Task-ranges}
-use Rattle.theory.specs.Jobs.{Job, All, Among, Proper, work, work-in, falls-in}
-use Rattle.theory.specs.Meaning.{Meaning, Laws}
-use Rattle.loads.specs.Tasks.{ceil, task-due, task-held, task-ready, task-mark, task-meaning, Task-permits, Of-task}
+use Rattle.loads.specs.Tasks.{ceil, task-due, task-held, task-ready, task-mark}
 use Rattle.loads.proofs.Quotients.{div-mono, ceil-mono, ceil-positive, div-still, div-split}
 
 module _ (x : TaskParams) (ok : Task-ranges x) where

@@ -1,8 +1,8 @@
 -- Quotients that are compared.
-use mathlib.Core.Path.{_≡_, refl, sym, ap, _∙_}
-use Prim.Native.Nat.{ℕ, suc, zero, _+_, _-_, _*_, _/_, _%_, _≤_, _<_}
+use mathlib.Core.Path.{_≡_, sym, ap, _∙_}
+use Prim.Native.Nat.{ℕ, _+_, _-_, _*_, _/_, _%_, _≤_, _<_}
 use native.Mathlib.Omega.{arith}
-use native.Mathlib.Nat.{add-mul, div-mul-le-self, lt-div-mul-add, add-div-right, div-add-mod'}
+use native.Mathlib.Nat.{add-mul, div-mul-le-self, lt-div-mul-add, div-add-mod'}
 use Rattle.std.proofs.shelf.Bits.{div-below, le-div, mod-below, div-mul-add}
 use Rattle.loads.specs.Tasks.{ceil}
 

@@ -1,19 +1,19 @@
 -- The jobs of one task: how much of them falls into a window.
 use mathlib.Core.Path.{_≡_, refl, sym, ap, _∙_, subst}
-use mathlib.Core.Bool.{Bool, true, false, cond, _&&_}
+use mathlib.Core.Bool.{Bool, true, false, cond}
 use mathlib.Core.List.{List, [], _∷_}
-use mathlib.Core.Logic.{_⊎_, inl, inr}
-use Prim.Native.Nat.{ℕ, suc, zero, _+_, _-_, _*_, _/_, _%_, _≤_, _<_, max}
+use mathlib.Core.Logic.{inl, inr}
+use Prim.Native.Nat.{ℕ, _+_, _-_, _*_, _/_, _≤_, _<_, max}
 use native.Mathlib.Omega.{arith}
 use native.Mathlib.Nat.{mul-add, mul-one, mul-zero, add-div-right, div-eq-of-lt}
-use lib.Dec.{leb, ltb, eqb}
-use lib.IntN.{ℤ, pos, _+ℤ_}
+use lib.Dec.{leb}
+use lib.IntN.{ℤ}
 use lib.Signed.{_≤ℤ_}
 use Rattle.std.proofs.shelf.Signed.{ints}
 use Rattle.std.proofs.shelf.Tests.{cases-lt, lt-leb, leb-true, and-left, and-right, and-parts}
 use Rattle.loads.specs.Params.{TaskParams, Task-ranges}
-use Rattle.theory.specs.Jobs.{Job, All, Among, Proper, work, work-in, falls-in}
-use Rattle.theory.specs.Meaning.{Meaning, Laws}
+use Rattle.theory.specs.Jobs.{Job, All, Among, work, work-in, falls-in}
+use Rattle.theory.specs.Meaning.{Laws}
 use Rattle.loads.specs.Tasks.{task-due, task-held, task-meaning, Task-permits, Of-task, Follow, Spaced}
 use Rattle.loads.proofs.OneTask as one
 

@@ -1,11 +1,11 @@
 -- A list of tasks is its first task beside the others, and so it is a load.
 use mathlib.Core.Path.{_≡_, refl, subst, sym, ap, _∙_}
 use mathlib.Core.List.{List, [], _∷_}
-use mathlib.Core.Bool.{Bool, true, false}
-use mathlib.Core.Logic.{_↔_, Iff·rfl}
-use Prim.Native.Nat.{ℕ, _+_, _-_, _*_, _/_, _%_, _≤_, _<_}
+use mathlib.Core.Bool.{true}
+use mathlib.Core.Logic.{Iff·rfl}
+use Prim.Native.Nat.{ℕ, _+_, _-_, _*_, _/_, _%_}
 use native.Mathlib.Omega.{arith}
-use native.Mathlib.Nat.{div-add-mod', mul-comm}
+use native.Mathlib.Nat.{div-add-mod'}
 use lib.Dec.{leb, eqb}
 use Rattle.std.proofs.shelf.Tests.{and-parts, and-from, leb-true, eqb-true, le-leb, eq-eqb}
 use Rattle.std.proofs.shelf.Bits.{mod-mul-add}

@@ -1,5 +1,5 @@
 -- The inner table, whose one element is lent.
-use mathlib.Core.Path.{_≡_, _∙_}
+use mathlib.Core.Path.{_∙_}
 use Prim.Native.Nat.{ℕ}
 use lib.ListN.{set, length-set}
 use Rattle.loads.specs.declared.table.Table.{Table}

@@ -1,12 +1,11 @@
 -- What a plan promises: never late over an accepted guest, and what each verdict says.
-use mathlib.Core.Path.{_≡_, refl, sym, ap, _∙_, subst}
+use mathlib.Core.Path.{_≡_, refl, sym, _∙_, subst}
 use mathlib.Core.Logic.{_↔_}
-use mathlib.Core.List.{List, [], _∷_}
 use mathlib.Core.Bool.{false}
-use Prim.Native.Nat.{ℕ, _≤_, _<_}
+use Prim.Native.Nat.{ℕ}
 use native.Mathlib.Omega.{arith}
 use lib.Dec.{ltb}
-use lib.ListN.{getD, set}
+use lib.ListN.{set}
 use Rattle.std.proofs.shelf.Tests.{le-ltb}
 use Rattle.std.specs.declared.option.Option.{Option}
 use Rattle.std.specs.declared.option.Option.the-variants.{Some, None}
@@ -14,14 +13,14 @@ use Rattle.std.specs.declared.result.Result.{Result}
 use Rattle.std.specs.declared.result.Result.the-variants.{Ok, Err}
 use Rattle.theory.specs.declared.verdict.Unfit.{Unfit}
 use Rattle.theory.specs.declared.verdict.Unfit.the-variants as unfit
-use Rattle.theory.specs.Meaning.{Meaning, Amounts, Rules, Laws, claim}
-use Rattle.theory.specs.Verdict.{busy, look, look-below, found, Accepted}
-use Rattle.theory.specs.Statements.{No-claim-exceeds, Never-late}
+use Rattle.theory.specs.Meaning.{Meaning, Amounts, Rules, Laws}
+use Rattle.theory.specs.Verdict.{busy, look, look-below, found}
+use Rattle.theory.specs.Statements.{No-claim-exceeds}
 use Rattle.theory.proofs.Walk.{walk-is-look}
 use Rattle.theory.proofs.Verdicts.{yes-exactly, late-exactly, look-at, look-open, verdicts}
 use Rattle.theory.proofs.Never.{never-late}
 use Rattle.loads.specs.declared.refusal.Refusal.the-variants.{NotClosed, Late}
-use Rattle.loads.specs.Channels.{Content, blank, content}
+use Rattle.loads.specs.Channels.{blank, content}
 use Rattle.loads.proofs.Ranged.{Ranged, set-ranged, task-ranged}
 use Rattle.plan.specs.declared.call.Call.{Call}
 use Rattle.plan.specs.declared.call.Call.the-variants.{Admit, Replace, Retire, Read}

@@ -1,7 +1,7 @@
 -- The verdict on the changed plan, and putting back.
-use mathlib.Core.Path.{_≡_, refl, sym, ap, _∙_}
-use mathlib.Core.List.{List, [], _∷_}
-use mathlib.Core.Bool.{false, cond}
+use mathlib.Core.Path.{_≡_, refl, ap, _∙_}
+use mathlib.Core.List.{[], _∷_}
+use mathlib.Core.Bool.{false}
 use Prim.Native.Nat.{ℕ, zero, suc, _≤_}
 use lib.Dec.{ltb}
 use lib.ListN.{getD, set}
@@ -9,7 +9,7 @@ use Rattle.std.proofs.shelf.Tests.{le-ltb}
 use Rattle.std.specs.declared.option.Option.{Option}
 use Rattle.std.specs.declared.option.Option.the-variants.{Some, None}
 use Rattle.std.specs.declared.result.Result.{Result}
-use Rattle.std.specs.declared.result.Result.the-variants.{Ok, Err}
+use Rattle.std.specs.declared.result.Result.the-variants.{Ok}
 use Rattle.theory.specs.declared.verdict.Unfit.{Unfit}
 use Rattle.theory.specs.Meaning.{Meaning, Laws}
 use Rattle.theory.specs.Verdict.{walk, look}
@@ -35,9 +35,6 @@ Put = Result (Unit {0}) Refusal × Channels
 
 in-table : (l : Ledger) (c : ℕ) (h : Option Content) → c ≤ 63 → put-at l c h ≡ (Ok tt, set l c h)
 in-table l c h b = let t : ltb 63 c ≡ false = le-ltb 63 c b in rw t
-
-pub put-says : (l s : Ledger) (c : ℕ) (h : Option Content) (r : Result (Unit {0}) Refusal) → c ≤ 63 → _≡_ {A = Result (Unit {0}) Refusal × Channels} (r, s) (put-at l c h) → r ≡ Ok tt
-put-says l s c h r b e = ap (λ (p : Put). p .0) (e ∙ in-table l c h b)
 
 pub put-stands : (l s : Ledger) (c : ℕ) (h : Option Content) (r : Result (Unit {0}) Refusal) → c ≤ 63 → _≡_ {A = Result (Unit {0}) Refusal × Channels} (r, s) (put-at l c h) → s ≡ set l c h
 put-stands l s c h r b e = ap (λ (p : Put). p .1) (e ∙ in-table l c h b)

@@ -1,7 +1,7 @@
 -- The ledger of a plan: what stands in its 64 channels, and what each call answers, from the guest's meaning
 -- and the calls' arguments alone.
 use mathlib.Core.List.{List, [], _∷_}
-use mathlib.Core.Bool.{Bool, true, false, cond}
+use mathlib.Core.Bool.{cond}
 use Prim.Native.Nat.{ℕ}
 use lib.Dec.{ltb}
 use lib.ListN.{getD, set}

@@ -1,12 +1,11 @@
 -- The laws of two loads side by side, and of no load.
-use mathlib.Core.Path.{_≡_, refl, sym, ap, subst}
-use mathlib.Core.Bool.{Bool, true, false, cond, _||_}
-use mathlib.Core.List.{List, [], _∷_}
+use mathlib.Core.Path.{_≡_, refl, subst}
+use mathlib.Core.List.{List, []}
 use mathlib.Core.Logic.{_⊎_, inl, inr}
-use Prim.Native.Nat.{ℕ, suc, zero, _+_, _-_, _≤_, _<_, max}
+use Prim.Native.Nat.{ℕ, _+_, _-_}
 use native.Mathlib.Omega.{arith}
 use Rattle.std.proofs.shelf.Tests.{or-parts, or-from}
-use Rattle.theory.specs.Jobs.{Job, All, Among, Proper, work, work-in, falls-in}
+use Rattle.theory.specs.Jobs.{Job, All, Among, Proper, work-in}
 use Rattle.theory.specs.Meaning.{Amounts, Rules, Meaning, Laws}
 use Rattle.theory.specs.Beside.{Deals, done, left, right, both, beside, nothing}
 use Rattle.theory.specs.Verdict.{Accepted}

@@ -1,14 +1,14 @@
 -- What `first`, `earliest` and `pick` choose.
-use mathlib.Core.Path.{_≡_, refl, sym, ap, _∙_, subst}
+use mathlib.Core.Path.{_≡_, refl, subst}
 use mathlib.Core.Bool.{Bool, true, false, cond, _&&_}
 use mathlib.Core.Option.{Option, some, none}
 use mathlib.Core.List.{List}
 use mathlib.Core.Logic.{_⊎_, inl, inr}
-use Prim.Native.Nat.{ℕ, suc, zero, _+_, _-_, _≤_, _<_}
+use Prim.Native.Nat.{ℕ, suc, zero, _-_, _≤_, _<_}
 use native.Mathlib.Omega.{arith}
-use lib.Dec.{ltb, leb}
+use lib.Dec.{ltb}
 use lib.ListN.{getD, length}
-use Rattle.std.proofs.shelf.Tests.{both-ways, cases-eq, cases-bool, ltb-true, ltb-false, leb-true, le-leb, lt-ltb, and-parts, and-from}
+use Rattle.std.proofs.shelf.Tests.{both-ways, cases-eq, ltb-true, ltb-false, leb-true, le-leb, lt-ltb, and-parts, and-from}
 use Rattle.theory.specs.Jobs.{Job, job, work}
 use Rattle.theory.specs.Dispatch.{first, earliest, is-inside, is-waiting, pick}
 use Rattle.theory.proofs.Pieces.{inside-work}

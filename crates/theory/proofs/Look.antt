@@ -1,8 +1,8 @@
 -- The look at every tick, step by step.
-use mathlib.Core.Path.{_≡_, refl, sym, _∙_, ap, subst}
-use mathlib.Core.Logic.{_⊎_, inl, inr, _↔_}
-use mathlib.Core.Bool.{Bool, true, false, cond, _&&_}
-use Prim.Native.Nat.{ℕ, suc, zero, _+_, _-_, _≤_, _<_}
+use mathlib.Core.Path.{_≡_, sym, _∙_, ap}
+use mathlib.Core.Logic.{inl, inr}
+use mathlib.Core.Bool.{true, false}
+use Prim.Native.Nat.{ℕ, suc, zero, _-_, _≤_, _<_}
 use native.Mathlib.Omega.{arith}
 use lib.Dec.{eqb, ltb}
 use Rattle.std.proofs.shelf.Tests.{eqb-true, eqb-false, lt-ltb, le-ltb, and-left, and-right, and-from, cases-bool}
@@ -58,9 +58,6 @@ look-last m t = onward-last m t (last-mark (m .mark) t) (last-says (m .mark) t)
 -- The three ways of a step.
 pub look-late : (m : Amounts) (t : ℕ) → m .mark t ≡ true → t < claim m t → look-below m (suc t) ≡ Some (t, claim m t)
 look-late m t k h = look-hit m t (exceeds m t k h)
-
-pub look-equal : (m : Amounts) (t : ℕ) → claim m t ≤ t → look-below m (suc t) ≡ onward m (last-mark (m .mark) t)
-look-equal m t h = look-miss m t (no-claim m t h) ∙ look-last m t
 
 pub look-still : (m : Amounts) (t : ℕ) → claim m t ≤ t → look-below m (suc t) ≡ look-below m t
 look-still m t h = look-miss m t (no-claim m t h)

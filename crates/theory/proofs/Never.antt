@@ -1,22 +1,22 @@
 -- A load whose claims stay within their ticks never has a late job.
 use mathlib.Core.Path.{_≡_, refl, sym, ap, _∙_, subst}
-use mathlib.Core.Bool.{Bool, true, false, cond, _&&_}
+use mathlib.Core.Bool.{Bool, true, false, _&&_}
 use mathlib.Core.Option.{Option, some, none}
 use mathlib.Core.List.{List, [], _∷_}
 use mathlib.Core.Logic.{_⊎_, inl, inr}
 use Prim.Native.Nat.{ℕ, suc, zero, _+_, _-_, _≤_, _<_}
 use native.Mathlib.Omega.{arith}
 use lib.Dec.{leb, ltb}
-use lib.ListN.{getD, length, set}
+use lib.ListN.{length}
 use Rattle.std.proofs.shelf.Lists.{getD-past}
-use Rattle.std.proofs.shelf.Tests.{both-ways, cases-eq, cases-lt, leb-true, le-leb, lt-leb, lt-ltb, ltb-true, and-parts, and-from, and-right}
-use Rattle.theory.specs.Jobs.{Job, job, no-job, work, sum, All, Among, Proper, falls-in, work-in}
-use Rattle.theory.specs.Dispatch.{inside, is-inside, pick, serve, served, first, Late}
-use Rattle.theory.specs.Meaning.{Meaning, Laws, claim}
+use Rattle.std.proofs.shelf.Tests.{both-ways, cases-lt, leb-true, le-leb, lt-leb, lt-ltb, ltb-true, and-parts, and-from, and-right}
+use Rattle.theory.specs.Jobs.{Job, job, no-job, work, All, Among, Proper, falls-in, work-in}
+use Rattle.theory.specs.Dispatch.{inside, is-inside, served, first}
+use Rattle.theory.specs.Meaning.{Meaning, Laws}
 use Rattle.theory.specs.Statements.{No-claim-exceeds, Never-late}
 use Rattle.theory.proofs.Pieces.{inside-piece, spent, spent-more}
 use Rattle.theory.proofs.Choose.{Picks, pick-is, Firsts, first-is}
-use Rattle.theory.proofs.Run.{ticks, picked, Moves, moves, picks, grows, within-work, started, served-length, in-range, inside-pos, only, after, served-more}
+use Rattle.theory.proofs.Run.{ticks, picked, picks, grows, within-work, started, served-length, in-range, inside-pos, only, after, served-more}
 use Rattle.theory.proofs.Given.{given, given-zero, given-same, given-more, given-lt}
 use Rattle.theory.proofs.Claims.{claim-is}
 

@@ -1,17 +1,17 @@
 -- The dispatcher tick by tick.
 use mathlib.Core.Path.{_≡_, refl, sym, ap, _∙_, subst}
-use mathlib.Core.Bool.{Bool, true, false, cond, _&&_}
+use mathlib.Core.Bool.{true, false}
 use mathlib.Core.Option.{Option, some, none}
-use mathlib.Core.List.{List, [], _∷_}
+use mathlib.Core.List.{List}
 use mathlib.Core.Logic.{_⊎_, inl, inr}
 use Prim.Native.Nat.{ℕ, suc, zero, _+_, _-_, _≤_, _<_}
 use native.Mathlib.Omega.{arith}
-use lib.ListN.{getD, length, set, replicate, length-set, length-replicate, getD-replicate}
+use lib.ListN.{getD, length, replicate, length-set, length-replicate, getD-replicate}
 use Rattle.std.proofs.shelf.Lists.{getD-set-same, getD-set-other, getD-past}
 use Rattle.std.proofs.shelf.Tests.{both-ways, cases-eq, cases-lt}
 use Rattle.theory.specs.Jobs.{Job, job, work, no-job}
 use Rattle.theory.specs.Dispatch.{inside, is-inside, pick, serve, served}
-use Rattle.theory.proofs.Pieces.{inside-work, inside-zero}
+use Rattle.theory.proofs.Pieces.{inside-zero}
 use Rattle.theory.proofs.Choose.{Picks, pick-is}
 
 abbrev pub ticks : List Job → ℕ → ℕ → ℕ

@@ -1,7 +1,7 @@
 -- What the verdicts say: yes, late, and that the two are one.
 use mathlib.Core.Path.{_≡_, refl, sym, _∙_, ap, subst}
-use mathlib.Core.Logic.{_⊎_, inl, inr, _↔_}
-use mathlib.Core.Bool.{Bool, true, false, cond, _&&_}
+use mathlib.Core.Logic.{inl, inr}
+use mathlib.Core.Bool.{Bool, true, false}
 use Prim.Native.Nat.{ℕ, suc, zero, _+_, _-_, _≤_, _<_}
 use native.Mathlib.Omega.{arith}
 use native.Mathlib.Numerals.{add-one, one-add}
@@ -9,9 +9,7 @@ use lib.Dec.{eqb, ltb}
 use Rattle.std.proofs.shelf.Tests.{ltb-true, ltb-false, eqb-true, eqb-false, and-parts, cases-bool, cases-lt, cases-eq, true≢false}
 use Rattle.std.specs.declared.option.Option.{Option}
 use Rattle.std.specs.declared.option.Option.the-variants.{Some, None}
-use Rattle.std.specs.declared.result.Result.{Result}
 use Rattle.std.specs.declared.result.Result.the-variants.{Ok, Err}
-use Rattle.theory.specs.declared.verdict.Unfit.{Unfit}
 use Rattle.theory.specs.declared.verdict.Unfit.the-variants.{NotClosed, Late}
 use Rattle.theory.specs.Meaning.{Amounts, Rules, claim, last-mark}
 use Rattle.theory.specs.Verdict.{busy, exceeded, walk-down, look-below, found, over, walk, look, Accepted}

@@ -1,17 +1,13 @@
 -- The walk finds what the look finds.
-use mathlib.Core.Path.{_≡_, refl, sym, _∙_, ap, subst}
-use mathlib.Core.Logic.{_⊎_, inl, inr, _↔_}
-use mathlib.Core.Bool.{Bool, true, false, cond, _&&_}
-use Prim.Native.Nat.{ℕ, suc, zero, _+_, _-_, _≤_, _<_}
+use mathlib.Core.Path.{_≡_, refl, sym, _∙_, ap}
+use mathlib.Core.Logic.{_⊎_, inl, inr}
+use mathlib.Core.Bool.{Bool, true, false}
+use Prim.Native.Nat.{ℕ, suc, zero, _-_, _≤_, _<_}
 use native.Mathlib.Omega.{arith}
 use lib.Dec.{ltb}
 use Rattle.std.proofs.shelf.Tests.{ltb-true, ltb-false}
 use Rattle.std.specs.declared.option.Option.{Option}
 use Rattle.std.specs.declared.option.Option.the-variants.{Some, None}
-use Rattle.std.specs.declared.result.Result.{Result}
-use Rattle.std.specs.declared.result.Result.the-variants.{Ok, Err}
-use Rattle.theory.specs.declared.verdict.Unfit.{Unfit}
-use Rattle.theory.specs.declared.verdict.Unfit.the-variants.{NotClosed, Late}
 use Rattle.theory.specs.Meaning.{Amounts, Rules, claim, last-mark}
 use Rattle.theory.specs.Verdict.{step, walk-down, look-below, found, over, walk, look, busy}
 use Rattle.theory.specs.Statements.{Walk-is-look}

@@ -1,8 +1,8 @@
 -- One load beside another, and no load at all.
 use mathlib.Core.Path.{_≡_}
 use mathlib.Core.List.{List, [], _∷_}
-use mathlib.Core.Bool.{Bool, true, false, _||_}
-use Prim.Native.Nat.{ℕ, _+_, max}
+use mathlib.Core.Bool.{false, _||_}
+use Prim.Native.Nat.{_+_, max}
 use Rattle.theory.specs.Jobs.{Job}
 use Rattle.theory.specs.Meaning.{Amounts, Meaning}
 

@@ -1,8 +1,8 @@
 -- The dispatcher: it starts at tick 0, and in each tick one job runs for one tick, or none.
 use mathlib.Core.List.{List, [], _∷_}
-use mathlib.Core.Bool.{Bool, true, false, cond, _&&_}
+use mathlib.Core.Bool.{Bool, false, cond, _&&_}
 use mathlib.Core.Option.{Option, some, none}
-use Prim.Native.Nat.{ℕ, zero, suc, _+_, _-_, _≤_, _<_}
+use Prim.Native.Nat.{ℕ, zero, suc, _+_, _-_, _<_}
 use lib.Dec.{leb, ltb}
 use lib.ListN.{getD, length, set, replicate}
 use Rattle.theory.specs.Jobs.{Job, job, work}

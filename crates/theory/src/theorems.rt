@@ -1,4 +1,4 @@
-ghost use Rattle.theory.specs.Meaning.{Meaning, Laws};
+ghost use Rattle.theory.specs.Meaning.{Laws};
 ghost use Rattle.theory.specs.Beside.{beside};
 ghost use Rattle.theory.specs.Verdict.{Accepted};
 ghost use Rattle.theory.specs.Statements.{One-verdict, Never-late, Lower-accepted};

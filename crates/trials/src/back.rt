@@ -12,7 +12,7 @@ const LARGEST: usize = 64 * 37 + 16 * 14 + 2;
 
 /// Fills a new plan with an image and writes the plan again: whether the bytes are the same. A fault where the plan
 /// is refused.
-pub fn comes_back(image: &[u8]) -> Result<bool, PlanFault> {
+pub(crate) fn comes_back(image: &[u8]) -> Result<bool, PlanFault> {
     let mut train = RampTrain::new();
     take_frames(&mut train, image)?;
     let mut guest = RampTrain::new();

@@ -32,7 +32,7 @@ fn byte_of(high: u8, low: u8) -> Option<u8>
 }
 
 /// The bytes that a text writes, two digits each; nothing if it holds anything else.
-pub fn bytes_in(heap: Global, text: &[u8]) -> Result<Option<Vec<u8>>, AllocError>
+pub(crate) fn bytes_in(heap: Global, text: &[u8]) -> Result<Option<Vec<u8>>, AllocError>
     ensures { λ r. ⌜ made r (λ o. mapped vec-items o ≡ unhex (now (text .entry))) ⌝ }
 {
     let mut bytes = Vec::new(heap);

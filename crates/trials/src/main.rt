@@ -8,6 +8,7 @@ mod hex;
 
 use crate::back::comes_back;
 use crate::hex::bytes_in;
+use image::outcome::Outcome;
 use image::outcome::OutcomeDisplay;
 use image::verdict::verdict;
 use std::io;
@@ -16,11 +17,14 @@ use std::io::BufReader;
 
 /// Prints what is to be said of one image.
 fn report(rt: &LibcRuntime, image: &[u8]) -> io::Result<()> {
-    rt.print(verdict(image))?;
-    match comes_back(image) {
-        Ok(true) => println!(rt, "written back"),
-        Ok(false) => println!(rt, "written back with other bytes"),
-        Err(_) => Ok(()),
+    let outcome = verdict(image);
+    rt.print(outcome)?;
+    match outcome {
+        Outcome::Yes(_) => match comes_back(image) {
+            Ok(true) => println!(rt, "written back"),
+            _ => println!(rt, "not written back"),
+        },
+        _ => Ok(()),
     }
 }
 

@@ -1,7 +1,6 @@
-use mathlib.Core.Path.{_≡_}
 use Prim.Native.Nat.{_<_}
 use native.Mathlib.Omega.{arith}
-use lib.ListN.{length, getD}
+use lib.ListN.{length}
 use Rattle.loads.specs.Channels.{content}
 use Rattle.plan.specs.declared.call.Call.the-variants.{Admit}
 use Rattle.plan.specs.Ledger.{ledger, admitted}

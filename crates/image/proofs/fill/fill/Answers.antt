@@ -6,8 +6,7 @@ use lib.ListN.{length, drop}
 use Rattle.std.proofs.shelf.Results.{err-from-errBy}
 use Rattle.std.specs.declared.result.Result.the-variants.{Ok, Err}
 use Rattle.std.specs.declared.option.Option.{Option}
-use Rattle.std.specs.declared.option.Option.the-variants.{Some, None}
-use Rattle.theory.specs.Meaning.{Meaning}
+use Rattle.std.specs.declared.option.Option.the-variants.{Some}
 use Rattle.plan.specs.declared.plan.Plan.{Plan}
 use Rattle.plan.specs.Ledger.{ledger}
 use Rattle.format.specs.declared.part.Part.{Part}

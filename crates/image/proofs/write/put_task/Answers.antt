@@ -1,8 +1,8 @@
-use mathlib.Core.Path.{_≡_, refl, sym, _∙_, ap}
+use mathlib.Core.Path.{_≡_, refl, _∙_, ap}
 use mathlib.Core.List.{List, [], _∷_, _++_, append-assoc}
 use native.Mathlib.Omega.{arith}
 use Prim.Native.Nat.{ℕ, _+_}
-use lib.ListN.{length, length-append}
+use lib.ListN.{length-append}
 use Rattle.format.specs.Bytes.{bytes}
 use Rattle.format.specs.Records.{task-bytes}
 use Rattle.format.specs.Encode.{placed-in}

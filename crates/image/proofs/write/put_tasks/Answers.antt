@@ -1,5 +1,5 @@
-use mathlib.Core.Path.{_≡_, refl, sym, _∙_, ap}
-use mathlib.Core.List.{List, [], _∷_, _++_}
+use mathlib.Core.Path.{refl, sym, _∙_, ap}
+use mathlib.Core.List.{List, _++_}
 use native.Mathlib.Nat.{zero-add}
 use native.Mathlib.Omega.{arith}
 use Prim.Native.Nat.{ℕ, _+_, _≤_, _<_}
@@ -9,7 +9,7 @@ use Rattle.plan.specs.Ledger.{ledger}
 use Rattle.format.specs.Records.{task-bytes}
 use Rattle.format.specs.Encode.{placed-in}
 use Rattle.format.specs.Writes.{placed, tasks-bytes}
-use Rattle.format.proofs.Places.{chain, placed-none, room}
+use Rattle.format.proofs.Places.{chain, room}
 use Rattle.format.proofs.WriteTurns.{channels-length, read-some, read-none, task-next, none-next, turn, tasks-end, length-task}
 use Rattle.image.proofs.write.put_tasks.Needs as need
 use Rattle.image.proofs.write.put_tasks.Needs.{in-Ok, in-Err}

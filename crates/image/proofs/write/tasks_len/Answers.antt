@@ -1,6 +1,6 @@
-use mathlib.Core.Path.{_≡_, ap}
+use mathlib.Core.Path.{ap}
 use native.Mathlib.Omega.{arith}
-use Prim.Native.Nat.{ℕ, _+_, _≤_, _<_}
+use Prim.Native.Nat.{_+_, _<_}
 use lib.ListN.{length, length-append, drop}
 use Rattle.std.proofs.shelf.Lists.{at-drop-all}
 use Rattle.loads.specs.Channels.{content}

@@ -2,7 +2,7 @@ use mathlib.Core.Path.{_≡_, refl, sym, _∙_, ap}
 use mathlib.Core.List.{List, [], _∷_, _++_, map}
 use native.Mathlib.Nat.{zero-add}
 use native.Mathlib.Omega.{arith}
-use Prim.Native.Nat.{ℕ, _+_, _*_, _≤_}
+use Prim.Native.Nat.{_+_, _≤_}
 use lib.ListN.{length, take, length-append, length-take}
 use Rattle.std.proofs.shelf.Lists.{length-map}
 use Rattle.loads.specs.Making.{frame-params}
@@ -19,7 +19,7 @@ use Rattle.format.specs.Writes.{placed, written, tasks-bytes, frames-bytes}
 use Rattle.format.specs.Statements.{Reads-again}
 use Rattle.format.proofs.ReadsAgain.{reads-again}
 use Rattle.format.proofs.Places.{chain}
-use Rattle.format.proofs.WriteTurns.{of-frames, encode-parts, length-frames, length-encode, written-short, written-all}
+use Rattle.format.proofs.WriteTurns.{encode-parts, length-frames, length-encode, written-short, written-all}
 use Rattle.image.proofs.write.write.Needs as need
 
 -- A train has at most sixteen frames, in range.

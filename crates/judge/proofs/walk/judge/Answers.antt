@@ -1,7 +1,6 @@
-use mathlib.Core.Path.{_≡_, subst}
-use Prim.Native.Nat.{ℕ, _<_}
+use mathlib.Core.Path.{subst}
 use native.Mathlib.Omega.{arith}
-use Rattle.std.specs.declared.option.Option.the-variants.{Some, None}
+use Rattle.std.specs.declared.option.Option.the-variants.{Some}
 use Rattle.theory.proofs.Verdicts.{walk-open}
 use Rattle.judge.proofs.Steps.{Going, short, uncut, go-start, go-mark, go-jump, go-late, go-none, left-less}
 use Rattle.judge.proofs.walk.judge.Needs as need

@@ -1,7 +1,4 @@
-use mathlib.Core.Path.{_≡_}
-use Prim.Native.Nat.{_<_, _≤_}
 use native.Mathlib.Omega.{arith}
-use lib.ListN.{length}
 use Rattle.loads.proofs.Labels.{differ, agree, ended}
 use Rattle.loads.proofs.table.channels.is_same.Needs as need
 

@@ -1,7 +1,6 @@
-use mathlib.Core.Path.{_≡_, refl, sym, ap, _∙_, subst}
+use mathlib.Core.Path.{_≡_, refl, _∙_, subst}
 use native.Mathlib.Omega.{arith}
-use Prim.Native.Nat.{ℕ, _<_}
-use lib.ListN.{length}
+use Prim.Native.Nat.{ℕ}
 use Rattle.plan.specs.Ledger.{ledger, reply, answer-to, next}
 use Rattle.plan.proofs.Turns.{So-far, at-start, turn, kept}
 use Rattle.plan.proofs.plan.Plan.carry_out.Needs as need

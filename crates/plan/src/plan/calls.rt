@@ -90,7 +90,8 @@ impl<G: Load> Plan<G> {
         if !is_label(&entry.label) {
             return Err(Refusal::BadLabel);
         }
-        match self.tasks.get(channel)? {
+        let held = self.tasks.get(channel)?;
+        match held {
             Some(_) => Err(Refusal::ChannelFilled),
             None => self.change(channel, entry, None),
         }

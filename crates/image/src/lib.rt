@@ -1,5 +1,7 @@
 //! Plan images: read into a train and a plan, written from them, and judged.
 
+#![tactic(auto)]
+
 pub mod check;
 pub mod fill;
 pub mod frames;

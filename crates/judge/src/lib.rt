@@ -2,6 +2,8 @@
 //!
 //! Nothing here knows a kind of load: the proofs rest on the laws of a load alone.
 
+#![tactic(auto)]
+
 mod claims;
 pub mod look;
 pub mod search;

@@ -1,5 +1,7 @@
 //! The records of a plan and the kinds of load: tasks in a table of 64 channels, and frames in a ramp train.
 
+#![tactic(auto)]
+
 pub mod entry;
 pub mod frame;
 pub mod list;

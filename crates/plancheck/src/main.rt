@@ -1,5 +1,7 @@
 //! Reads the first 4,096 bytes of standard input as a plan image and prints its verdict as one line.
 
+#![tactic(auto)]
+
 use crate::input::reading::judge_first;
 use std::io;
 

@@ -4,6 +4,8 @@
 //! theorem, whose contract states it. `load` has the interface that every kind of load implements, `verdict` the two
 //! ways in which a load can fail to be accepted.
 
+#![tactic(auto)]
+
 pub mod load;
 pub mod theorems;
 pub mod verdict;

@@ -3,6 +3,8 @@
 //!
 //! An empty line is an image of no bytes. Where a line is no hexadecimal, the line printed for it says so.
 
+#![tactic(auto)]
+
 mod back;
 mod hex;
 

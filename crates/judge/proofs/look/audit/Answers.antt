@@ -4,7 +4,7 @@ use Rattle.theory.proofs.Verdicts.{look_open}
 use Rattle.judge.proofs.Steps.{short, uncut, look_first, look_over, look_worse, look_same, look_unmarked}
 use Rattle.theory.specs.Verdict.{look_below}
 use Rattle.judge.proofs.look.audit.Goals as goal
-use Rattle.judge.proofs.look.audit.Goals.{then-claimed-t+then-is-mark, else-claimed-t, else-claimed-t-via-then-claimed-t+else-is-mark, else-claimed-t-via-else-claimed-t}
+use Rattle.judge.proofs.look.audit.Goals.{then-claimed-t+then-is_mark, else-claimed-t, else-claimed-t-via-then-claimed-t+else-is_mark, else-claimed-t-via-else-claimed-t}
 
 pub returns-in-default : goal.returns-in-default
 returns-in-default g c = look_open (g.L.Load.meaning c.args.load.now).amounts c.in-default.ensures
@@ -28,14 +28,14 @@ loop-t-preserved g c =
     let m = (g.L.Load.meaning c.args.load.now).amounts in
     let t = c.loop-t.t in
     let old = c.loop-t.worst in
-    let r = c.claim-at-claimed.result in
+    let r = c.claim_at-claimed.result in
     elim c.if-claimed-t.branch [
-      | then-claimed-t+then-is-mark w ↦ w.worst-is ∙ look_worse m t r w.if-is-mark.ensures c.claim-at-claimed.ensures w.if-claimed-t.true
+      | then-claimed-t+then-is_mark w ↦ w.worst-is ∙ look_worse m t r w.if-is-mark.ensures c.claim_at-claimed.ensures w.if-claimed-t.true
       | else-claimed-t w ↦
           w.worst-is
           ∙ elim w.else-claimed-t.branch [
-            | else-claimed-t-via-then-claimed-t+else-is-mark v ↦ look_unmarked m t old c.loop-t.invariant v.if-is-mark.ensures
-            | else-claimed-t-via-else-claimed-t v ↦ look_same m t r old c.loop-t.invariant c.claim-at-claimed.ensures v.if-claimed-t.false
+            | else-claimed-t-via-then-claimed-t+else-is_mark v ↦ look_unmarked m t old c.loop-t.invariant v.if-is-mark.ensures
+            | else-claimed-t-via-else-claimed-t v ↦ look_same m t r old c.loop-t.invariant c.claim_at-claimed.ensures v.if-claimed-t.false
           ]
     ]
 

@@ -10,7 +10,7 @@ returns-in-default g c = walk_open (g.L.Load.meaning c.args.load.now).amounts c.
 pub loop-next-init : goal.loop-next-init
 loop-next-init g c =
     go_start (g.L.Load.meaning c.args.load.now).amounts (g.met.L.Load.lawful c.args.load.now).rules c.in-Some.busy c.in-Some.ensures
-    c.last-mark-next.result c.last-mark-next.ensures
+    c.last_mark-next.result c.last_mark-next.ensures
 
 pub claim-at-claimed-requires : goal.claim-at-claimed-requires
 claim-at-claimed-requires g c =
@@ -26,7 +26,7 @@ returns-then-claimed-t g c =
     let l = (g.met.L.Load.lawful c.args.load.now).rules in
     let w = c.in-Some.busy in
     let i : Going m w (Some c.in-Some-next.t) = subst (λ o. Going m w o) c.in-Some-next.is c.loop-next.invariant in
-    go_late m l w c.in-Some.ensures c.in-Some-next.t c.claim-at-claimed.result i c.claim-at-claimed.ensures c.if-claimed-t.true
+    go_late m l w c.in-Some.ensures c.in-Some-next.t c.claim_at-claimed.result i c.claim_at-claimed.ensures c.if-claimed-t.true
 
 pub loop-next-preserved-then-claimed-t-2 : goal.loop-next-preserved-then-claimed-t-2
 loop-next-preserved-then-claimed-t-2 g c =
@@ -34,12 +34,12 @@ loop-next-preserved-then-claimed-t-2 g c =
     let l = (g.met.L.Load.lawful c.args.load.now).rules in
     let w = c.in-Some.busy in
     let i : Going m w (Some c.in-Some-next.t) = subst (λ o. Going m w o) c.in-Some-next.is c.loop-next.invariant in
-    go_jump m l w c.in-Some.ensures c.in-Some-next.t c.claim-at-claimed.result i c.claim-at-claimed.ensures c.if-claimed-t-2.true
+    go_jump m l w c.in-Some.ensures c.in-Some-next.t c.claim_at-claimed.result i c.claim_at-claimed.ensures c.if-claimed-t-2.true
 
 pub loop-next-smaller : goal.loop-next-smaller
 loop-next-smaller g c =
-    left_less (g.L.Load.meaning c.args.load.now).amounts.mark c.in-Some-next.t c.last-mark-next-else-claimed-t-2.result c.loop-next.next
-    c.last-mark-next-else-claimed-t-2.ensures c.in-Some-next.is
+    left_less (g.L.Load.meaning c.args.load.now).amounts.mark c.in-Some-next.t c.last_mark-next-else-claimed-t-2.result c.loop-next.next
+    c.last_mark-next-else-claimed-t-2.ensures c.in-Some-next.is
 
 pub loop-next-preserved : goal.loop-next-preserved
 loop-next-preserved g c =
@@ -47,12 +47,12 @@ loop-next-preserved g c =
     let l = (g.met.L.Load.lawful c.args.load.now).rules in
     let w = c.in-Some.busy in
     let i : Going m w (Some c.in-Some-next.t) = subst (λ o. Going m w o) c.in-Some-next.is c.loop-next.invariant in
-    go_mark m l w c.in-Some.ensures c.in-Some-next.t c.claim-at-claimed.result i c.claim-at-claimed.ensures c.if-claimed-t.false
-    c.last-mark-next-else-claimed-t-2.result c.last-mark-next-else-claimed-t-2.ensures
+    go_mark m l w c.in-Some.ensures c.in-Some-next.t c.claim_at-claimed.result i c.claim_at-claimed.ensures c.if-claimed-t.false
+    c.last_mark-next-else-claimed-t-2.result c.last_mark-next-else-claimed-t-2.ensures
 
 pub returns : goal.returns
 returns g c =
     let m = (g.L.Load.meaning c.args.load.now).amounts in
     let l = (g.met.L.Load.lawful c.args.load.now).rules in
     let w = c.in-Some.busy in
-    go_none m l w c.in-Some.ensures (subst (λ o. Going m w o) c.in-default-next.is c.loop-next.invariant)
+    go_none m l w c.in-Some.ensures (subst (λ o. Going m w o) c.in_default-next.is c.loop-next.invariant)

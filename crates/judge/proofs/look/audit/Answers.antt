@@ -6,21 +6,21 @@ use Rattle.theory.specs.Verdict.{look_below}
 use Rattle.judge.proofs.look.audit.Goals as goal
 use Rattle.judge.proofs.look.audit.Goals.{then-claimed-t+then-is_mark, else-claimed-t, else-claimed-t-via-then-claimed-t+else-is_mark, else-claimed-t-via-else-claimed-t}
 
-pub returns-in-default : goal.returns-in-default
-returns-in-default g c = look_open (g.L.Load.meaning c.args.load.now).amounts c.in-default.ensures
+pub returns-in_default : goal.returns-in_default
+returns-in_default g c = look_open (g.L.Load.meaning c.args.load.now).amounts c.in_default.ensures
 
 pub loop-t-init : goal.loop-t-init
 loop-t-init g c = look_first (g.L.Load.meaning c.args.load.now).amounts
 
-pub claim-at-claimed-requires : goal.claim-at-claimed-requires
-claim-at-claimed-requires g c =
+pub claim_at-claimed-requires : goal.claim_at-claimed-requires
+claim_at-claimed-requires g c =
     let m = (g.L.Load.meaning c.args.load.now).amounts in
     let l = (g.met.L.Load.lawful c.args.load.now).rules in
     let w = c.in-Some.busy in
     record { within = omega (arith, short m l w c.in-Some.ensures); uncut = uncut m l w c.in-Some.ensures c.loop-t.t (omega arith) }
 
-pub is-mark-requires : goal.is-mark-requires
-is-mark-requires g c =
+pub is_mark-requires : goal.is_mark-requires
+is_mark-requires g c =
     omega (arith, short (g.L.Load.meaning c.args.load.now).amounts (g.met.L.Load.lawful c.args.load.now).rules c.in-Some.busy c.in-Some.ensures)
 
 pub loop-t-preserved : goal.loop-t-preserved
@@ -30,11 +30,11 @@ loop-t-preserved g c =
     let old = c.loop-t.worst in
     let r = c.claim_at-claimed.result in
     elim c.if-claimed-t.branch [
-      | then-claimed-t+then-is_mark w ↦ w.worst-is ∙ look_worse m t r w.if-is-mark.ensures c.claim_at-claimed.ensures w.if-claimed-t.true
+      | then-claimed-t+then-is_mark w ↦ w.worst-is ∙ look_worse m t r w.if-is_mark.ensures c.claim_at-claimed.ensures w.if-claimed-t.true
       | else-claimed-t w ↦
           w.worst-is
           ∙ elim w.else-claimed-t.branch [
-            | else-claimed-t-via-then-claimed-t+else-is_mark v ↦ look_unmarked m t old c.loop-t.invariant v.if-is-mark.ensures
+            | else-claimed-t-via-then-claimed-t+else-is_mark v ↦ look_unmarked m t old c.loop-t.invariant v.if-is_mark.ensures
             | else-claimed-t-via-else-claimed-t v ↦ look_same m t r old c.loop-t.invariant c.claim_at-claimed.ensures v.if-claimed-t.false
           ]
     ]

@@ -4,16 +4,16 @@ use Rattle.theory.proofs.Verdicts.{walk_open}
 use Rattle.judge.proofs.Steps.{Going, short, uncut, go_start, go_mark, go_jump, go_late, go_none, left_less}
 use Rattle.judge.proofs.walk.judge.Goals as goal
 
-pub returns-in-default : goal.returns-in-default
-returns-in-default g c = walk_open (g.L.Load.meaning c.args.load.now).amounts c.in-default.ensures
+pub returns-in_default : goal.returns-in_default
+returns-in_default g c = walk_open (g.L.Load.meaning c.args.load.now).amounts c.in_default.ensures
 
 pub loop-next-init : goal.loop-next-init
 loop-next-init g c =
     go_start (g.L.Load.meaning c.args.load.now).amounts (g.met.L.Load.lawful c.args.load.now).rules c.in-Some.busy c.in-Some.ensures
     c.last_mark-next.result c.last_mark-next.ensures
 
-pub claim-at-claimed-requires : goal.claim-at-claimed-requires
-claim-at-claimed-requires g c =
+pub claim_at-claimed-requires : goal.claim_at-claimed-requires
+claim_at-claimed-requires g c =
     let m = (g.L.Load.meaning c.args.load.now).amounts in
     let l = (g.met.L.Load.lawful c.args.load.now).rules in
     let w = c.in-Some.busy in

@@ -1,7 +1,6 @@
 -- A list of tasks is its first task beside the others, and so it is a load.
 use Rattle.std.specs.Prelude.{◌≡◌, ℕ, ◌+◌, ◌-◌, ◌*◌, ◌/◌, ◌%◌, true, List, [], ◌∷◌, ◌==◌, nat_le, refl}
 use Rattle.std.proofs.Common.{subst, sym, ap, ◌∙◌, arith, div-add-mod'}
-use Rattle.std.proofs.Math.Logic.{Iff·rfl}
 use Rattle.std.proofs.lemmas.Bool.{and_parts, and_from, leb-true, eqb-true, le-leb, eq-eqb}
 use Rattle.std.proofs.lemmas.Nat.{mod-mul-add}
 use Rattle.loads.specs.Params.{TaskParams, TaskRanges}
@@ -42,7 +41,7 @@ pub marks_are : MarksAre
 marks_are x ok t = (mark_is x ok t, λ p. rw p.1 (is_mark x ok p.0))
 
 same : (m n : Meaning) → m ≡ n → Same m n
-same m n e = subst (Same m) e (record { due = λ t. refl; held = λ t. refl; ready = λ s. refl; mark = λ t. refl; Permits = λ js. Iff·rfl })
+same m n e = subst (Same m) e (record { due = λ t. refl; held = λ t. refl; ready = λ s. refl; mark = λ t. refl; Permits = λ js. (λ p. p, λ p. p) })
 
 pub none_same : NoTasks
 none_same = same (tasks_meaning []) nothing no_tasks

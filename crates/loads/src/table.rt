@@ -17,7 +17,7 @@ impl Slot {
     }
 }
 
-/// SixtyFour elements, of which one can be lent to be changed.
+/// Sixty-four elements, of which one can be lent to be changed.
 #[derive(Drop)]
 pub struct Table<T> {
     slots: [T; 64],

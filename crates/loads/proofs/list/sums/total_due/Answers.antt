@@ -6,8 +6,8 @@ use Rattle.loads.proofs.Sizes.{due_small}
 use Rattle.loads.specs.TaskLoops.{total_turn, total_end}
 use Rattle.loads.proofs.list.sums.total_due.Goals as goal
 
-pub overflow-add-sum : goal.overflow-add-sum
-overflow-add-sum c = omega (arith, due_small c.args.t c.requires (task_params c.task-item.result) (task_ranged c.task-item.result), c.due.ensures)
+pub overflow_add-sum : goal.overflow_add-sum
+overflow_add-sum c = omega (arith, due_small c.args.t c.requires (task_params c.task-item.result) (task_ranged c.task-item.result), c.due.ensures)
 
 pub loop-task-preserved : goal.loop-task-preserved
 loop-task-preserved c =

@@ -6,8 +6,8 @@ use Rattle.loads.proofs.Sizes.{ready_small}
 use Rattle.loads.specs.TaskLoops.{total_turn, total_end}
 use Rattle.loads.proofs.list.sums.total_ready.Goals as goal
 
-pub overflow-add-sum : goal.overflow-add-sum
-overflow-add-sum c = omega (arith, ready_small c.args.s c.requires (task_params c.task-item.result) (task_ranged c.task-item.result), c.ready.ensures)
+pub overflow_add-sum : goal.overflow_add-sum
+overflow_add-sum c = omega (arith, ready_small c.args.s c.requires (task_params c.task-item.result) (task_ranged c.task-item.result), c.ready.ensures)
 
 pub loop-task-preserved : goal.loop-task-preserved
 loop-task-preserved c =

@@ -3,8 +3,8 @@ use native.Mathlib.Nat.{mod-le}
 use Rattle.loads.proofs.TrainMarks.{last_hit_none, back_late, last_early, last_late}
 use Rattle.loads.proofs.train.marks.last_hit.Goals as goal
 
-pub overflow-sub-result-else-off-rest-3 : goal.overflow-sub-result-else-off-rest-3
-overflow-sub-result-else-off-rest-3 c =
+pub overflow_sub-result-else-off-rest-3 : goal.overflow_sub-result-else-off-rest-3
+overflow_sub-result-else-off-rest-3 c =
     let b = back_late c.args.round c.args.t c.args.off c.args.deadline c.args.rest c.requires.within.0 c.if-t-off.false c.requires.left c.if-off-rest.false in
     omega (arith, mod-le (c.args.t - 1 - (c.args.off + c.args.deadline)) c.args.round)
 

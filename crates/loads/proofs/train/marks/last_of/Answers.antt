@@ -10,8 +10,8 @@ use Rattle.loads.proofs.train.marks.last_of.Goals as goal
 pub bounds-rests-i : goal.bounds-rests-i
 bounds-rests-i c = omega (arith, simp length-map at (ap length c.requires.each))
 
-pub last-hit-requires : goal.last-hit-requires
-last-hit-requires c =
+pub last_hit-requires : goal.last_hit-requires
+last_hit-requires c =
     let n = cycle_next c.args.frames.now c.loop-i.i c.index-frames-i.result c.loop-i-test.true c.index-frames-i.is in record {
       within = (omega (arith, c.index-frames-i.result.gap_range.0), omega arith);
       near = omega (arith, c.index-frames-i.result.deadline_range.1);
@@ -24,8 +24,8 @@ pub loop-i-preserved : goal.loop-i-preserved
 loop-i-preserved c =
     let n = cycle_next c.args.frames.now c.loop-i.i c.index-frames-i.result c.loop-i-test.true c.index-frames-i.is in
     let s = last_next c.args.round c.args.t c.loop-i.off c.args.frames.now c.loop-i.i c.index-frames-i.result
-    c.from-deadline.result c.from-off.result c.loop-i.last c.last-hit.result c.loop-i-test.true c.index-frames-i.is
-    (c.from-deadline.ensures ∙ c.deadline.ensures) (c.from-off.ensures ∙ c.gap.ensures) c.last-hit.ensures in (
+    c.from-deadline.result c.from-off.result c.loop-i.last c.last_hit.result c.loop-i-test.true c.index-frames-i.is
+    (c.from-deadline.ensures ∙ c.deadline.ensures) (c.from-off.ensures ∙ c.gap.ensures) c.last_hit.ensures in (
       omega arith,
       ap (λ o. later o (last_mark (λ u. mark_from c.args.round u (c.loop-i.off + c.from-off.result) (map frame_params (drop (c.loop-i.i + 1) c.args.frames.now))) c.args.t)) c.later-last.ensures
           ∙ sym s ∙ c.loop-i.invariant.1,

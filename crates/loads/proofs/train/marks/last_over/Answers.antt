@@ -15,8 +15,8 @@ pub loop-k-preserved : goal.loop-k-preserved
 loop-k-preserved c =
     let fs = map frame_params c.args.frames.now in
     c.later-last.ensures
-    ∙ last_more (λ j u. mark_from (cycle fs) u 0 (circle_from j fs)) c.args.t c.loop-k.k c.loop-k.last c.last-at.result c.loop-k.invariant
-    (c.last-at.ensures ∙ ap (λ n. last_mark (λ u. mark_from n u 0 (circle_from c.loop-k.k fs)) c.args.t) c.requires.whole.0)
+    ∙ last_more (λ j u. mark_from (cycle fs) u 0 (circle_from j fs)) c.args.t c.loop-k.k c.loop-k.last c.last_at.result c.loop-k.invariant
+    (c.last_at.ensures ∙ ap (λ n. last_mark (λ u. mark_from n u 0 (circle_from c.loop-k.k fs)) c.args.t) c.requires.whole.0)
 
 pub returns : goal.returns
 unfolding train_amounts

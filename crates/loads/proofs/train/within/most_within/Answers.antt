@@ -13,8 +13,8 @@ pub loop-k-preserved : goal.loop-k-preserved
 loop-k-preserved c = (
   search rules,
   λ limit e.
-      largest_more (λ k. within limit 0 (circle_from k (map frame_params c.args.frames.now))) c.loop-k.k c.loop-k.most c.within-at.result c.max-most.result
-      (c.loop-k.invariant.1 limit e) (c.within-at.ensures.same limit e) (search rules),
+      largest_more (λ k. within limit 0 (circle_from k (map frame_params c.args.frames.now))) c.loop-k.k c.loop-k.most c.within_at.result c.max-most.result
+      (c.loop-k.invariant.1 limit e) (c.within_at.ensures.same limit e) (search rules),
 )
 
 pub returns : goal.returns

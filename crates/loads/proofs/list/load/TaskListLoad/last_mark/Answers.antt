@@ -5,4 +5,4 @@ use Rattle.loads.proofs.list.load.TaskListLoad.last_mark.Goals as goal
 
 pub returns : goal.returns
 unfolding tasks_meaning tasks_amounts
-returns c = c.last-below.ensures ∙ (λ i. last_of (c.tasks.ensures i) (c.min.ensures i))
+returns c = c.last_below.ensures ∙ (λ i. last_of (c.tasks.ensures i) (c.min.ensures i))

@@ -5,7 +5,7 @@ use Rattle.loads.specs.Ranged.{tasks_in}
 use Rattle.loads.specs.Tasks.{tasks_meaning, tasks_amounts}
 use Rattle.loads.proofs.Slots.{last_of, last_some, last_skip, last_end}
 use Rattle.loads.proofs.table.answers.TableSlotLoad.last_mark.Goals as goal
-use Rattle.loads.proofs.table.answers.TableSlotLoad.last_mark.Goals.{in-Some, in-default}
+use Rattle.loads.proofs.table.answers.TableSlotLoad.last_mark.Goals.{in-Some, in_default}
 
 pub loop-slot-preserved : goal.loop-slot-preserved
 loop-slot-preserved c =
@@ -13,10 +13,10 @@ loop-slot-preserved c =
       elim c.match-slot.branch [
         | in-Some w ↦
             (let r = last_some c.args.self.now.slots c.loop-slot.slot-index c.min-t.result c.loop-slot.last c.slot-item.result w.in-Some.entry (omega arith) w.in-Some.is c.loop-slot.invariant.0 in
-            ap (λ o. later o (last_of (tasks_in (drop (c.loop-slot.slot-index + 1) c.args.self.now.slots)) c.min-t.result)) (w.last_is ∙ w.later-last.ensures ∙ ap (later c.loop-slot.last) w.last_mark.ensures) ∙ r)
-        | in-default w ↦
-            (let r = last_skip c.args.self.now.slots c.loop-slot.slot-index c.min-t.result c.loop-slot.last c.slot-item.result (omega arith) w.in-default.is c.loop-slot.invariant.0 in
-            ap (λ o. later o (last_of (tasks_in (drop (c.loop-slot.slot-index + 1) c.args.self.now.slots)) c.min-t.result)) w.last_is ∙ r)
+            ap (λ o. later o (last_of (tasks_in (drop (c.loop-slot.slot-index + 1) c.args.self.now.slots)) c.min-t.result)) (w.last-is ∙ w.later-last.ensures ∙ ap (later c.loop-slot.last) w.last_mark.ensures) ∙ r)
+        | in_default w ↦
+            (let r = last_skip c.args.self.now.slots c.loop-slot.slot-index c.min-t.result c.loop-slot.last c.slot-item.result (omega arith) w.in_default.is c.loop-slot.invariant.0 in
+            ap (λ o. later o (last_of (tasks_in (drop (c.loop-slot.slot-index + 1) c.args.self.now.slots)) c.min-t.result)) w.last-is ∙ r)
       ],
       λ _. n,
     )

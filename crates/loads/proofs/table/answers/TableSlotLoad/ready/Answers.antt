@@ -5,10 +5,10 @@ use Rattle.loads.specs.Tasks.{tasks_meaning, tasks_amounts, total, task_ready}
 use Rattle.loads.proofs.Slots.{total_some, total_none, total_end}
 use Rattle.loads.proofs.Sizes.{total_small, ready_small}
 use Rattle.loads.proofs.table.answers.TableSlotLoad.ready.Goals as goal
-use Rattle.loads.proofs.table.answers.TableSlotLoad.ready.Goals.{in-Some, in-default}
+use Rattle.loads.proofs.table.answers.TableSlotLoad.ready.Goals.{in-Some, in_default}
 
-pub overflow-add-sum : goal.overflow-add-sum
-overflow-add-sum c =
+pub overflow_add-sum : goal.overflow_add-sum
+overflow_add-sum c =
     let n : length c.args.self.now.slots ≡ 64 = search rules in
     let u : c.min-s.result ≤ 100000000 = omega arith in
     let w = total_some c.args.self.now.slots c.loop-slot.slot-index (λ x. task_ready x c.min-s.result) c.loop-slot.sum c.slot-item.result c.in-Some.entry (omega arith) c.in-Some.is c.loop-slot.invariant.0 in
@@ -23,8 +23,8 @@ loop-slot-preserved c =
         | in-Some w ↦
             (let r = total_some c.args.self.now.slots c.loop-slot.slot-index (λ x. task_ready x c.min-s.result) c.loop-slot.sum c.slot-item.result w.in-Some.entry (omega arith) w.in-Some.is c.loop-slot.invariant.0 in
             omega (arith, w.sum-is, w.ready-sum.ensures, r))
-        | in-default w ↦
-            (let r = total_none c.args.self.now.slots c.loop-slot.slot-index (λ x. task_ready x c.min-s.result) c.loop-slot.sum c.slot-item.result (omega arith) w.in-default.is c.loop-slot.invariant.0 in
+        | in_default w ↦
+            (let r = total_none c.args.self.now.slots c.loop-slot.slot-index (λ x. task_ready x c.min-s.result) c.loop-slot.sum c.slot-item.result (omega arith) w.in_default.is c.loop-slot.invariant.0 in
             omega (arith, w.sum-is, r))
       ],
       λ _. n,

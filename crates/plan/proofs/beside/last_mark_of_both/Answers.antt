@@ -8,5 +8,5 @@ pub returns : goal.returns
 unfolding beside both
 returns g c =
     c.later.ensures
-    ∙ ap₂ later c.last_mark.ensures c.last-mark-2.ensures
+    ∙ ap₂ later c.last_mark.ensures c.last_mark-2.ensures
     ∙ sym (last_either (g.A.Load.meaning c.args.a.now).amounts.mark (g.B.Load.meaning c.args.b.now).amounts.mark (min c.args.t 100000000))

@@ -19,8 +19,8 @@ returns-in-Ok g c =
       guest = refl;
     }
 
-pub returns-in-ok-put-2 : goal.returns-in-ok-put-2
-returns-in-ok-put-2 g c =
+pub returns-in_ok-put-in-Err : goal.returns-in_ok-put-in-Err
+returns-in_ok-put-in-Err g c =
     let m = g.G.Load.meaning c.args.self.now.guest in
     let l = ledger c.args.self.now in
     let s = put_stands l (channels c.put.new.self) c.args.channel (Some (content c.args.entry)) c.put.result c.requires.channel c.put.ensures in

@@ -107,8 +107,8 @@ module _ (xs : List ℕ) (fs : List FrameParams) (k : Read xs fs) (fr : All Fram
   unfolding judged
   walked r e =
       ap over_records k.is
-      ∙ ap (λ (hs : List FrameParams). over_train k.records (look (train_meaning hs).amounts)) (sym k.frames)
-      ∙ ap (over_train k.records) (sym (e ∙ walk_is_look g.amounts lg.rules))
+      ∙ ap (λ (hs : List FrameParams). over_train k.records (walk (train_meaning hs).amounts)) (sym k.frames)
+      ∙ ap (over_train k.records) (sym e)
 
   -- The train alone is refused.
   pub train_refused : (u : Unfit) (r : Refusal) (n : ℕ) (ps : List TaskParams) → Err u ≡ walk g.amounts → r ≡ refusal_of u → ps ≡ params (tasks_in k.records) → n ≡ length ps

@@ -111,9 +111,8 @@ pub fn verdict(image: &[u8]) -> Outcome
 }
 
 /// The verdict of the first 4,096 bytes of an image as one number, for a host in C: 0 for yes, 11 for late, else the
-/// refusal's number.
-#[unsafe(no_mangle)]
-pub extern "C" fn lukwaizo_check(image: &[u8]) -> u32
+/// refusal's number. The crate `image_c` exports it.
+pub fn lukwaizo_check(image: &[u8]) -> u32
     ensures { result ≡ code_of (told (judged (take 4096 image.now))) }
 {
     let seen = if image.len() > LIMIT {

@@ -11,40 +11,40 @@ pub loop-part-init : goal.loop-part-init
 unfolding decode
 loop-part-init c = (omega arith, (length c.args.image.now, omega arith, refl))
 
-pub returns-in-err-part : goal.returns-in-err-part
-returns-in-err-part c =
-    let p = err_from_is_err_and c.from-residual.result c.from-residual.ensures.1 in
-    rw (p.1, p.2) (stops c.args.image.now c.loop-part.before c.loop-part.at _ _ c.loop-part.invariant.1 c.in-err-part.ensures)
+pub returns-in_err-part : goal.returns-in_err-part
+returns-in_err-part c =
+    let p = err_from_is_err_and c.from_residual.result c.from_residual.ensures.1 in
+    rw (p.1, p.2) (stops c.args.image.now c.loop-part.before c.loop-part.at _ _ c.loop-part.invariant.1 c.in_err-part.ensures)
 
 pub pass-requires : goal.pass-requires
 pass-requires c =
-    let e = subst (λ (o : Option Part). shown (Ok o) ≡ part c.loop-part.at (drop c.loop-part.at c.args.image.now)) c.in-Some.is c.in-ok-part.ensures in
+    let e = subst (λ (o : Option Part). shown (Ok o) ≡ part c.loop-part.at (drop c.loop-part.at c.args.image.now)) c.in-Some.is c.in_ok-part.ensures in
     (part_known c.args.image.now c.loop-part.before c.loop-part.at (outcome (decode c.args.image.now)) (piece c.in-Some.part) e).1
 
-pub returns-in-err-before : goal.returns-in-err-before
-returns-in-err-before c =
-    let e = subst (λ (o : Option Part). shown (Ok o) ≡ part c.loop-part.at (drop c.loop-part.at c.args.image.now)) c.in-Some.is c.in-ok-part.ensures in
-    let p = err_from_is_err_and c.from-residual-in-err-before.result c.from-residual-in-err-before.ensures.1 in
-    rw (p.1, p.2) (fails c.args.image.now c.loop-part.before c.loop-part.at _ (piece c.in-Some.part) _ c.loop-part.invariant.1 e c.in-err-before.ensures)
+pub returns-in_err-before-in-Some : goal.returns-in_err-before-in-Some
+returns-in_err-before-in-Some c =
+    let e = subst (λ (o : Option Part). shown (Ok o) ≡ part c.loop-part.at (drop c.loop-part.at c.args.image.now)) c.in-Some.is c.in_ok-part.ensures in
+    let p = err_from_is_err_and c.from_residual-in_err-before-in-Some.result c.from_residual-in_err-before-in-Some.ensures.1 in
+    rw (p.1, p.2) (fails c.args.image.now c.loop-part.before c.loop-part.at _ (piece c.in-Some.part) _ c.loop-part.invariant.1 e c.in_err-before-in-Some.ensures)
 
 pub loop-part-smaller : goal.loop-part-smaller
 loop-part-smaller c =
-    let e = subst (λ (o : Option Part). shown (Ok o) ≡ part c.loop-part.at (drop c.loop-part.at c.args.image.now)) c.in-Some.is c.in-ok-part.ensures in
+    let e = subst (λ (o : Option Part). shown (Ok o) ≡ part c.loop-part.at (drop c.loop-part.at c.args.image.now)) c.in-Some.is c.in_ok-part.ensures in
     let k = part_known c.args.image.now c.loop-part.before c.loop-part.at (outcome (decode c.args.image.now)) (piece c.in-Some.part) e in
-    let g = (goes c.args.image.now c.loop-part.before _ c.loop-part.at (outcome (decode c.args.image.now)) (piece c.in-Some.part) c.loop-part.invariant.0 c.loop-part.invariant.1 e c.in-ok-before.ensures).0 in
-    omega (arith, k.3, g, c.size-of-at.ensures)
+    let g = (goes c.args.image.now c.loop-part.before _ c.loop-part.at (outcome (decode c.args.image.now)) (piece c.in-Some.part) c.loop-part.invariant.0 c.loop-part.invariant.1 e c.in_ok-before-in-Some.ensures).0 in
+    omega (arith, k.3, g, c.size_of-at.ensures)
 
 pub loop-part-preserved : goal.loop-part-preserved
 loop-part-preserved c =
-    let e = subst (λ (o : Option Part). shown (Ok o) ≡ part c.loop-part.at (drop c.loop-part.at c.args.image.now)) c.in-Some.is c.in-ok-part.ensures in
-    rw c.size-of-at.ensures (goes c.args.image.now c.loop-part.before _ c.loop-part.at (outcome (decode c.args.image.now)) (piece c.in-Some.part) c.loop-part.invariant.0 c.loop-part.invariant.1 e c.in-ok-before.ensures)
+    let e = subst (λ (o : Option Part). shown (Ok o) ≡ part c.loop-part.at (drop c.loop-part.at c.args.image.now)) c.in-Some.is c.in_ok-part.ensures in
+    rw c.size_of-at.ensures (goes c.args.image.now c.loop-part.before _ c.loop-part.at (outcome (decode c.args.image.now)) (piece c.in-Some.part) c.loop-part.invariant.0 c.loop-part.invariant.1 e c.in_ok-before-in-Some.ensures)
 
 pub returns-then-at-image : goal.returns-then-at-image
 returns-then-at-image c =
-    let e = subst (λ (o : Option Part). shown (Ok o) ≡ part c.loop-part.at (drop c.loop-part.at c.args.image.now)) c.in-None.is c.in-ok-part.ensures in
+    let e = subst (λ (o : Option Part). shown (Ok o) ≡ part c.loop-part.at (drop c.loop-part.at c.args.image.now)) c.in-None.is c.in_ok-part.ensures in
     trails c.args.image.now c.loop-part.before c.loop-part.at _ c.loop-part.invariant.1 e (omega arith)
 
 pub returns-in-None : goal.returns-in-None
 returns-in-None c =
-    let e = subst (λ (o : Option Part). shown (Ok o) ≡ part c.loop-part.at (drop c.loop-part.at c.args.image.now)) c.in-None.is c.in-ok-part.ensures in
+    let e = subst (λ (o : Option Part). shown (Ok o) ≡ part c.loop-part.at (drop c.loop-part.at c.args.image.now)) c.in-None.is c.in_ok-part.ensures in
     ends c.args.image.now c.loop-part.before c.loop-part.at _ c.loop-part.invariant.1 e (omega arith)

@@ -11,25 +11,25 @@ returns-in-Refused g c =
     let m = g.G.Load.meaning c.args.plan.now.guest in
     let l = ledger c.args.plan.now in
     let k = Admit c.args.channel c.args.entry in
-    let n = c.carry-out-count.result in
-    let room : 0 < length c.carry-out-count.new.answers = omega arith in
-    let a = one_answer m l k n c.carry-out-count.new.answers c.index-answers-0.result c.carry-out-count.ensures.count room c.carry-out-count.ensures.says in
+    let n = c.carry_out-count.result in
+    let room : 0 < length c.carry_out-count.new.answers = omega arith in
+    let a = one_answer m l k n c.carry_out-count.new.answers c.index-answers-0.result c.carry_out-count.ensures.count room c.carry_out-count.ensures.says in
     record {
       says = was_refused _ c.in-Refused.e (admitted m l c.args.channel (content c.args.entry)) c.in-Refused.is a;
-      channels = one_after m l (ledger c.carry-out-count.new.self) k n c.carry-out-count.ensures.count c.carry-out-count.ensures.channels;
-      guest = c.carry-out-count.ensures.guest;
+      channels = one_after m l (ledger c.carry_out-count.new.self) k n c.carry_out-count.ensures.count c.carry_out-count.ensures.channels;
+      guest = c.carry_out-count.ensures.guest;
     }
 
-pub returns-in-default : goal.returns-in-default
-returns-in-default g c =
+pub returns-in_default : goal.returns-in_default
+returns-in_default g c =
     let m = g.G.Load.meaning c.args.plan.now.guest in
     let l = ledger c.args.plan.now in
     let k = Admit c.args.channel c.args.entry in
-    let n = c.carry-out-count.result in
-    let room : 0 < length c.carry-out-count.new.answers = omega arith in
-    let a = one_answer m l k n c.carry-out-count.new.answers c.index-answers-0.result c.carry-out-count.ensures.count room c.carry-out-count.ensures.says in
+    let n = c.carry_out-count.result in
+    let room : 0 < length c.carry_out-count.new.answers = omega arith in
+    let a = one_answer m l k n c.carry_out-count.new.answers c.index-answers-0.result c.carry_out-count.ensures.count room c.carry_out-count.ensures.says in
     record {
-      says = was_granted _ (admitted m l c.args.channel (content c.args.entry)) c.in-default.not-Refused a;
-      channels = one_after m l (ledger c.carry-out-count.new.self) k n c.carry-out-count.ensures.count c.carry-out-count.ensures.channels;
-      guest = c.carry-out-count.ensures.guest;
+      says = was_granted _ (admitted m l c.args.channel (content c.args.entry)) c.in_default.not-Refused a;
+      channels = one_after m l (ledger c.carry_out-count.new.self) k n c.carry_out-count.ensures.count c.carry_out-count.ensures.channels;
+      guest = c.carry_out-count.ensures.guest;
     }

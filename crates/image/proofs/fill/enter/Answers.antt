@@ -7,16 +7,16 @@ use Rattle.image.proofs.fill.enter.Goals as goal
 
 pub returns-in-Ok : goal.returns-in-Ok
 returns-in-Ok g c = record {
-  says = λ _. entered_ok (g.G.Load.meaning c.args.plan.now.guest) c.args.bytes.now c.args.at (ledger c.args.plan.now) (ledger c.admit-one.new.plan) c.requires
-      c.in-ok-entry.entry c.in-ok-entry.ensures c.admit-one.ensures.channels c.in-Ok.ensures.says;
-  reached = (Admit (get_or c.args.bytes.now 18 0) c.in-ok-entry.entry ∷ [], c.admit-one.ensures.channels);
-  guest = c.admit-one.ensures.guest;
+  says = λ _. entered_ok (g.G.Load.meaning c.args.plan.now.guest) c.args.bytes.now c.args.at (ledger c.args.plan.now) (ledger c.admit_one.new.plan) c.requires
+      c.in_ok-entry.entry c.in_ok-entry.ensures c.admit_one.ensures.channels c.in-Ok.ensures.says;
+  reached = (Admit (get_or c.args.bytes.now 18 0) c.in_ok-entry.entry ∷ [], c.admit_one.ensures.channels);
+  guest = c.admit_one.ensures.guest;
 }
 
 pub returns-in-Err : goal.returns-in-Err
 returns-in-Err g c = record {
-  says = λ _. entered_err (g.G.Load.meaning c.args.plan.now.guest) c.args.bytes.now c.args.at (ledger c.args.plan.now) (ledger c.admit-one.new.plan) c.requires
-      c.in-ok-entry.entry c.in-ok-entry.ensures c.admit-one.ensures.channels c.in-Err.e c.in-Err.ensures.says;
-  reached = (Admit (get_or c.args.bytes.now 18 0) c.in-ok-entry.entry ∷ [], c.admit-one.ensures.channels);
-  guest = c.admit-one.ensures.guest;
+  says = λ _. entered_err (g.G.Load.meaning c.args.plan.now.guest) c.args.bytes.now c.args.at (ledger c.args.plan.now) (ledger c.admit_one.new.plan) c.requires
+      c.in_ok-entry.entry c.in_ok-entry.ensures c.admit_one.ensures.channels c.in-Err.e c.in-Err.ensures.says;
+  reached = (Admit (get_or c.args.bytes.now 18 0) c.in_ok-entry.entry ∷ [], c.admit_one.ensures.channels);
+  guest = c.admit_one.ensures.guest;
 }

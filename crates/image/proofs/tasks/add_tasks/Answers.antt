@@ -9,8 +9,8 @@ use Rattle.image.proofs.tasks.add_tasks.Goals as goal
 pub loop-next-init : goal.loop-next-init
 loop-next-init c = collect_start c.args.image.now (tasks_of c.args.tasks.now)
 
-pub add-task-requires : goal.add-task-requires
-add-task-requires c =
+pub add_task-requires : goal.add_task-requires
+add_task-requires c =
     let e = subst (λ (o : Option Part). shown (Ok o) ≡ part c.loop-next.at (drop c.loop-next.at c.args.image.now)) (c.in-Some.is ∙ ap {B = Option Part} Some c.in-Task.is) c.in-Ok.ensures in
     task_long c.args.image.now c.loop-next.at (tasks_of c.args.tasks.now) (tasks_of c.loop-next.tasks) c.loop-next.invariant c.in-Task.bytes.now c.in-Task.field-1 e
 
@@ -22,7 +22,7 @@ loop-next-smaller c =
 pub loop-next-preserved : goal.loop-next-preserved
 loop-next-preserved c =
     let e = subst (λ (o : Option Part). shown (Ok o) ≡ part c.loop-next.at (drop c.loop-next.at c.args.image.now)) (c.in-Some.is ∙ ap {B = Option Part} Some c.in-Task.is) c.in-Ok.ensures in
-    task_collected c.args.image.now c.loop-next.at (tasks_of c.args.tasks.now) (tasks_of c.loop-next.tasks) c.loop-next.invariant c.in-Task.bytes.now c.in-Task.field-1 e (tasks_of c.add-task.new.tasks) c.add-task.ensures
+    task_collected c.args.image.now c.loop-next.at (tasks_of c.args.tasks.now) (tasks_of c.loop-next.tasks) c.loop-next.invariant c.in-Task.bytes.now c.in-Task.field-1 e (tasks_of c.add_task.new.tasks) c.add_task.ensures
 
 pub returns-in-Frame : goal.returns-in-Frame
 returns-in-Frame c =
@@ -35,4 +35,4 @@ returns-in-None c =
     at_last c.args.image.now c.loop-next.at (tasks_of c.args.tasks.now) (tasks_of c.loop-next.tasks) c.loop-next.invariant e
 
 pub returns : goal.returns
-returns c = at_fault c.args.image.now c.loop-next.at (tasks_of c.args.tasks.now) (tasks_of c.loop-next.tasks) c.loop-next.invariant _ c.in-default.ensures
+returns c = at_fault c.args.image.now c.loop-next.at (tasks_of c.args.tasks.now) (tasks_of c.loop-next.tasks) c.loop-next.invariant _ c.in_default.ensures

@@ -31,8 +31,8 @@ over r l now train e v = v ∙ ap (λ (x : RampTrain). walk (beside (tasks_meani
 none : TaskParams
 none = task 0 0 0 0 0
 
-pub overflow-sub-i-end : goal.overflow-sub-i-end
-overflow-sub-i-end c = omega (arith, c.requires.some, ap length c.tasks-all.ensures, length-map c.tasks-all.result.now task_params)
+pub overflow_sub-i-end : goal.overflow_sub-i-end
+overflow_sub-i-end c = omega (arith, c.requires.some, ap length c.tasks-all.ensures, length-map c.tasks-all.result.now task_params)
 
 pub loop-i-init : goal.loop-i-init
 loop-i-init c = (refl, c.new.ensures, refl)
@@ -58,8 +58,8 @@ returns-in-Err c =
     turn_refused (train_meaning (frames_of c.args.plan.now.second)) ps (tasks_of c.push.new.self) c.loop-i.i (task_params c.index-all-i.result) (omega arith) held (laws c.push.new.self c.args.plan.now.second) c.loop-i.invariant.2
     c.in-Err.early (over (Err c.in-Err.early) c.push.new.self c.loop-i.part.second c.args.plan.now.second c.loop-i.invariant.0 c.in-Err.ensures)
 
-pub overflow-sub-result : goal.overflow-sub-result
-overflow-sub-result c = omega (arith, c.requires.some, ap length c.tasks-all.ensures, length-map c.tasks-all.result.now task_params)
+pub overflow_sub-result : goal.overflow_sub-result
+overflow_sub-result c = omega (arith, c.requires.some, ap length c.tasks-all.ensures, length-map c.tasks-all.result.now task_params)
 
 pub returns : goal.returns
 returns c =

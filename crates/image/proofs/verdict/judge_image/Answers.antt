@@ -16,21 +16,21 @@ use Rattle.image.proofs.verdict.judge_image.Goals as goal
 no_yes : {A : Type 0} (e : PlanFault) (w : ℕ) → ◌≡◌ {A = Result ℕ PlanFault} (Err e) (Ok w) → A
 no_yes e w p = let z : ◌≡◌ {A = ℕ} 0 1 = cc in absurd (omega arith)
 
-pub returns-in-err-take-frames : goal.returns-in-err-take-frames
-returns-in-err-take-frames c =
-    let p = err_from_is_err_and c.from-residual.result c.from-residual.ensures.1 in
+pub returns-in_err-take_frames : goal.returns-in_err-take_frames
+returns-in_err-take_frames c =
+    let p = err_from_is_err_and c.from_residual.result c.from_residual.ensures.1 in
     record {
-      says = rw (p.1, p.2) (unread c.args.image.now _ _ _ c.in-err-take-frames.ensures);
+      says = rw (p.1, p.2) (unread c.args.image.now _ _ _ c.in_err-take_frames.ensures);
       safe = λ w e. no_yes _ w (sym p.1 ∙ e);
     }
 
 pub returns-in-Err : goal.returns-in-Err
 returns-in-Err c =
-    let fs = frames_of c.take-frames.new.train in
-    let k = was_read c.args.image.now fs (frames_of c.new-2.result) c.in-ok-take-frames.ensures in
+    let fs = frames_of c.take_frames.new.train in
+    let k = was_read c.args.image.now fs (frames_of c.new-2.result) c.in_ok-take_frames.ensures in
     record {
-      says = train_refused c.args.image.now fs k (frames_ranged c.take-frames.new.train) c.in-Err.unfit c.refusal.result (length c.tasks-count.result.now) (tasks_of c.add-tasks.new.tasks)
-          c.in-Err.ensures c.refusal.ensures (c.add-tasks.ensures c.new.ensures k.records k.is)
+      says = train_refused c.args.image.now fs k (frames_ranged c.take_frames.new.train) c.in-Err.unfit c.refusal.result (length c.tasks-count.result.now) (tasks_of c.add_tasks.new.tasks)
+          c.in-Err.ensures c.refusal.ensures (c.add_tasks.ensures c.new.ensures k.records k.is)
           (omega (arith, ap length c.tasks-count.ensures, length-map c.tasks-count.result.now task_params));
       safe = λ w e. no_yes _ w e;
     }
@@ -38,32 +38,32 @@ returns-in-Err c =
 pub returns-then-count-eq0 : goal.returns-then-count-eq0
 returns-then-count-eq0 c =
     let xs = c.args.image.now in
-    let fs = frames_of c.take-frames.new.train in
-    let ps = tasks_of c.add-tasks.new.tasks in
-    let k = was_read xs fs (frames_of c.new-2.result) c.in-ok-take-frames.ensures in
-    let fr = frames_ranged c.take-frames.new.train in
-    let t = c.add-tasks.ensures c.new.ensures k.records k.is in
+    let fs = frames_of c.take_frames.new.train in
+    let ps = tasks_of c.add_tasks.new.tasks in
+    let k = was_read xs fs (frames_of c.new-2.result) c.in_ok-take_frames.ensures in
+    let fr = frames_ranged c.take_frames.new.train in
+    let t = c.add_tasks.ensures c.new.ensures k.records k.is in
     let n : length ps ≡ 0 = omega (arith, ap length c.tasks-count.ensures, length-map c.tasks-count.result.now task_params) in
     let z : ps ≡ [] = nil_from_length ps n in
     let says = no_tasks_told xs fs k fr c.in-Ok.busy c.in-Ok.ensures ps t z in
     record {
       says = says;
-      safe = λ w e. yes_holds xs fs k fr c.in-Ok.busy c.in-Ok.ensures ps t (list_ranged c.add-tasks.new.tasks) (train_accepted xs fs k fr c.in-Ok.busy c.in-Ok.ensures ps t z) w (sym e ∙ says);
+      safe = λ w e. yes_holds xs fs k fr c.in-Ok.busy c.in-Ok.ensures ps t (list_ranged c.add_tasks.new.tasks) (train_accepted xs fs k fr c.in-Ok.busy c.in-Ok.ensures ps t z) w (sym e ∙ says);
     }
 
-pub judge-tasks-requires : goal.judge-tasks-requires
-judge-tasks-requires c = omega (arith, ap length c.tasks-count.ensures, length-map c.tasks-count.result.now task_params)
+pub judge_tasks-requires : goal.judge_tasks-requires
+judge_tasks-requires c = omega (arith, ap length c.tasks-count.ensures, length-map c.tasks-count.result.now task_params)
 
 pub returns : goal.returns
 returns c =
     let xs = c.args.image.now in
-    let fs = frames_of c.take-frames.new.train in
-    let ps = tasks_of c.add-tasks.new.tasks in
-    let k = was_read xs fs (frames_of c.new-2.result) c.in-ok-take-frames.ensures in
-    let fr = frames_ranged c.take-frames.new.train in
-    let t = c.add-tasks.ensures c.new.ensures k.records k.is in
-    let says = c.judge-tasks.ensures.says ∙ sym (told_by_tasks xs fs k fr c.in-Ok.busy c.in-Ok.ensures ps t) in
+    let fs = frames_of c.take_frames.new.train in
+    let ps = tasks_of c.add_tasks.new.tasks in
+    let k = was_read xs fs (frames_of c.new-2.result) c.in_ok-take_frames.ensures in
+    let fr = frames_ranged c.take_frames.new.train in
+    let t = c.add_tasks.ensures c.new.ensures k.records k.is in
+    let says = c.judge_tasks.ensures.says ∙ sym (told_by_tasks xs fs k fr c.in-Ok.busy c.in-Ok.ensures ps t) in
     record {
       says = says;
-      safe = λ w e. yes_holds xs fs k fr c.in-Ok.busy c.in-Ok.ensures ps t (list_ranged c.add-tasks.new.tasks) (c.judge-tasks.ensures.safe w e) w (sym e ∙ says);
+      safe = λ w e. yes_holds xs fs k fr c.in-Ok.busy c.in-Ok.ensures ps t (list_ranged c.add_tasks.new.tasks) (c.judge_tasks.ensures.safe w e) w (sym e ∙ says);
     }

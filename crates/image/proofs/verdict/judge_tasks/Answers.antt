@@ -26,8 +26,8 @@ train_laws train = lawful (frames_of train) (frames_ranged train)
 laws : (tasks : TaskList) (train : RampTrain) → Laws (beside (tasks_meaning (tasks_of tasks)) (train_meaning (frames_of train)))
 laws tasks train = laws_of (train_meaning (frames_of train)) (train_laws train) (tasks_of tasks) (list_ranged tasks)
 
-pub first-refused-early-requires : goal.first-refused-early-requires
-first-refused-early-requires c = record { some = c.requires; refused = c.in-Err.ensures ∙ walk_is_look _ (laws c.args.plan.now.first c.args.plan.now.second).rules }
+pub first_refused-early-requires : goal.first_refused-early-requires
+first_refused-early-requires c = record { some = c.requires; refused = c.in-Err.ensures ∙ walk_is_look _ (laws c.args.plan.now.first c.args.plan.now.second).rules }
 
 pub returns-in-Ok : goal.returns-in-Ok
 returns-in-Ok c =
@@ -39,7 +39,7 @@ returns-in-Ok c =
 
 pub returns-in-Err : goal.returns-in-Err
 returns-in-Err c = record {
-  says = ap (λ (r : Refusal). let j : Result ℕ PlanFault = Err (Refused r c.first-refused-early.result.1) in j) c.refusal.ensures
-      ∙ sym (ap (by_first (train_meaning (frames_of c.args.plan.now.second)) (tasks_of c.args.plan.now.first)) c.first-refused-early.ensures);
+  says = ap (λ (r : Refusal). let j : Result ℕ PlanFault = Err (Refused r c.first_refused-early.result.1) in j) c.refusal.ensures
+      ∙ sym (ap (by_first (train_meaning (frames_of c.args.plan.now.second)) (tasks_of c.args.plan.now.first)) c.first_refused-early.ensures);
   safe = λ w p. let z : ◌≡◌ {A = ℕ} 0 1 = cc in absurd (omega arith);
 }

@@ -10,8 +10,8 @@ use Rattle.image.proofs.write.put_frames.Goals as goal
 pub loop-i-init : goal.loop-i-init
 loop-i-init c = ([], placed_none c.args.out.now c.args.from, sym (add-zero c.args.from), refl)
 
-pub put-frame-requires : goal.put-frame-requires
-put-frame-requires c =
+pub put_frame-requires : goal.put_frame-requires
+put_frame-requires c =
     let fs = c.args.frames.now in
     let f = c.index-frames-i.result in
     let i = c.loop-i.i in
@@ -21,8 +21,8 @@ put-frame-requires c =
     let k : length v.0 + 14 ≤ length (of_frames fs) = room v.0 (frame_bytes (frame_params f)) (of_frames (drop (i + 1) fs)) (of_frames fs) t in
     omega (arith, k, v.2, c.requires, c.loop-i.auto.out)
 
-pub overflow-add-at : goal.overflow-add-at
-overflow-add-at c =
+pub overflow_add-at : goal.overflow_add-at
+overflow_add-at c =
     let fs = c.args.frames.now in
     let f = c.index-frames-i.result in
     let i = c.loop-i.i in
@@ -30,7 +30,7 @@ overflow-add-at c =
     let e = frame_next fs i f c.loop-i-test.true c.index-frames-i.is in
     let t = turn v.0 (of_frames (drop i fs)) (frame_bytes (frame_params f)) (of_frames (drop (i + 1) fs)) (of_frames fs) e v.3 in
     let k : length v.0 + 14 ≤ length (of_frames fs) = room v.0 (frame_bytes (frame_params f)) (of_frames (drop (i + 1) fs)) (of_frames fs) t in
-    omega (arith, k, v.2, c.requires, c.well-formed)
+    omega (arith, k, v.2, c.requires, c.well_formed)
 
 pub loop-i-preserved : goal.loop-i-preserved
 loop-i-preserved c =
@@ -41,7 +41,7 @@ loop-i-preserved c =
     let e = frame_next fs i f c.loop-i-test.true c.index-frames-i.is in
     let t = turn v.0 (of_frames (drop i fs)) (frame_bytes (frame_params f)) (of_frames (drop (i + 1) fs)) (of_frames fs) e v.3 in (
       v.0 ++ frame_bytes (frame_params f),
-      chain c.args.out.now _ _ c.args.from _ v.0 _ (frame_bytes (frame_params f)) v.1 c.put-frame.ensures v.2 refl (omega arith),
+      chain c.args.out.now _ _ c.args.from _ v.0 _ (frame_bytes (frame_params f)) v.1 c.put_frame.ensures v.2 refl (omega arith),
       omega (arith, v.2, length-append v.0 (frame_bytes (frame_params f))),
       t,
     )

@@ -10,8 +10,8 @@ use Rattle.format.proofs.WriteTurns.{channels_length, read_some, read_none, task
 use Rattle.image.proofs.write.put_tasks.Goals as goal
 use Rattle.image.proofs.write.put_tasks.Goals.{in-Ok, in-Err}
 
-pub put-task-requires : goal.put-task-requires
-put-task-requires g c =
+pub put_task-requires : goal.put_task-requires
+put_task-requires g c =
     let l = ledger c.args.plan.now in
     let i = c.loop-channel.channel in
     let v = c.loop-channel.invariant in
@@ -23,8 +23,8 @@ put-task-requires g c =
     let n = length_task i k c.in-Ok.entry.sixteen in
     omega (arith, r, n, v.2, c.requires, c.loop-channel.auto.out)
 
-pub overflow-add-at : goal.overflow-add-at
-overflow-add-at g c =
+pub overflow_add-at : goal.overflow_add-at
+overflow_add-at g c =
     let l = ledger c.args.plan.now in
     let i = c.loop-channel.channel in
     let v = c.loop-channel.invariant in
@@ -34,7 +34,7 @@ overflow-add-at g c =
     let t = turn v.0 (tasks_bytes i (drop i l)) b (tasks_bytes (i + 1) (drop (i + 1) l)) (tasks_bytes 0 l) e v.3 in
     let r : length v.0 + length b ≤ length (tasks_bytes 0 l) = room v.0 b (tasks_bytes (i + 1) (drop (i + 1) l)) (tasks_bytes 0 l) t in
     let n = length_task i k c.in-Ok.entry.sixteen in
-    omega (arith, r, n, v.2, c.requires, c.well-formed)
+    omega (arith, r, n, v.2, c.requires, c.well_formed)
 
 pub loop-channel-preserved : goal.loop-channel-preserved
 loop-channel-preserved g c =
@@ -48,7 +48,7 @@ loop-channel-preserved g c =
           let b = task_bytes (placed_in i k) in
           let e = task_next l i k h (read_some l i (omega arith) k w.in-Ok.ensures) in (
             v.0 ++ b,
-            w.out-is ∙ chain c.args.out.now _ _ 0 _ v.0 _ b v.1 w.put-task.ensures v.2 refl (omega arith),
+            w.out-is ∙ chain c.args.out.now _ _ 0 _ v.0 _ b v.1 w.put_task.ensures v.2 refl (omega arith),
             w.at-is ∙ omega (arith, v.2, length-append v.0 b, length_task i k w.in-Ok.entry.sixteen),
             turn v.0 (tasks_bytes i (drop i l)) b (tasks_bytes (i + 1) (drop (i + 1) l)) (tasks_bytes 0 l) e v.3,
           )

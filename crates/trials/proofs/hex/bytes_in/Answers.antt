@@ -13,7 +13,7 @@ loop-at-preserved c =
     let text = c.args.text.now in
     let at = c.loop-at.at in (
       omega (arith, c.loop-at-test.true),
-      ap (λ bs. whole bs (drop (at + 2) text)) c.in-ok-push.ensures.items
+      ap (λ bs. whole bs (drop (at + 2) text)) c.in_ok-push-in-Some.ensures.items
           ∙ decode_go (vec_items c.loop-at.bytes) text at (unhex text) c.in-Some.b c.loop-at-test.true (sym c.in-Some.ensures) c.loop-at.invariant.1,
     )
 

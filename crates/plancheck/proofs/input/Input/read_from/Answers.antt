@@ -6,11 +6,11 @@ use Rattle.plancheck.proofs.input.Input.read_from.Goals as goal
 
 pub loop-input-smaller : goal.loop-input-smaller
 loop-input-smaller g c =
-    omega (arith, count_grows g.S.Source.gave c.loop-input.source c.loop-input.input c.in-ok-n.n c.pull.new.source c.pull.new.self c.in-ok-n.ensures)
+    omega (arith, count_grows g.S.Source.gave c.loop-input.source c.loop-input.input c.in_ok-n.n c.pull.new.source c.pull.new.self c.in_ok-n.ensures)
 
 pub loop-input-preserved : goal.loop-input-preserved
 loop-input-preserved g c =
-    let a = c.in-ok-n.ensures in
+    let a = c.in_ok-n.ensures in
     one_more g.S.Source.gave c.args.source.now c.loop-input.source c.pull.new.source (received c.loop-input.input) a.piece (received c.pull.new.self)
     c.loop-input.invariant a.given a.after
 
@@ -20,6 +20,6 @@ returns-after-loop-input g c =
 
 pub returns-then-n-eq0 : goal.returns-then-n-eq0
 returns-then-n-eq0 g c =
-    let a = c.in-ok-n.ensures in
+    let a = c.in_ok-n.ensures in
     at_end g.S.Source.gave c.args.source.now c.loop-input.source c.pull.new.source (received c.loop-input.input) a.piece (received c.pull.new.self)
     c.loop-input.invariant a.given (a.size ∙ c.if-n-eq0.true) a.after (omega (arith, counted c.pull.new.self, c.pull.new.self.room))

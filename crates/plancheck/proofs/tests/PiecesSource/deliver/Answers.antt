@@ -6,6 +6,6 @@ pub returns : goal.returns
 returns c =
     let n = c.min-n.result in
     let buf = c.args.buf.now in
-    let copied = c.copy-from-slice.new.self in
+    let copied = c.copy_from_slice.new.self in
     cut_at n c.args.self.now.left.now copied (drop n buf) (omega arith)
-    (λ some z. omega (arith, length-append copied (drop n buf), length-take n buf, length-drop n buf)) c.copy-from-slice.ensures.after
+    (λ some z. omega (arith, length-append copied (drop n buf), length-take n buf, length-drop n buf)) c.copy_from_slice.ensures.after

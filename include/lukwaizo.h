@@ -1,6 +1,6 @@
 /* Lukwaizo for a host in C: whether a plan suffices for one processor under earliest deadline first.
  *
- * Link target/staticlib/libimage.a, which `rt staticlib image` writes. docs/HOST.md says how,
+ * Link target/staticlib/libimage.a, which `tools/staticlib` writes. docs/HOST.md says how,
  * docs/IMAGE.md what the bytes of an image are, docs/REFUSALS.md what each number means.
  */
 #ifndef LUKWAIZO_H

@@ -20,16 +20,23 @@ def options(doc):
     return parser
 
 
-def run(*words):
-    """Runs a command of the build at the root; its failure ends this with 2."""
+def run(*words, folder=ROOT):
+    """Runs a command of the build; its failure ends this with 2."""
     print("building:", *words, flush=True)
-    if subprocess.run(words, cwd=ROOT, stdin=subprocess.DEVNULL).returncode != 0:
+    if subprocess.run(words, cwd=folder, stdin=subprocess.DEVNULL).returncode != 0:
         sys.exit(2)
 
 
 def plancheck():
-    run("rt", "check", "plancheck")
-    return ROOT / "target/bin/plancheck"
+    """Proves and builds the program. `rt run` also runs it once, on no input."""
+    run("rt", "run", folder=ROOT / "crates/plancheck")
+    return ROOT / "crates/plancheck/out/plancheck"
+
+
+def staticlib():
+    """Proves and builds the library for C."""
+    run("tools/staticlib")
+    return ROOT / "target/staticlib/libimage.a"
 
 
 def start(program, stdin=subprocess.PIPE):

@@ -8,7 +8,7 @@
  * Status 0: every image was read, whatever its verdict. Status 2: a file could not be read, a line was
  * bad, or the answers could not be written.
  *
- * `make -C examples/host` builds it, once `rt staticlib image` has written the library.
+ * `make -C examples/host` builds it, once `tools/staticlib` has written the library.
  */
 #include <stdio.h>
 #include <string.h>

@@ -1,13 +1,12 @@
 -- Collecting the tasks of an image that has passed the check, from its front up to the first frame.
-use Rattle.std.proofs.Common.{◌≡◌, ℕ, suc, ◌+◌, ◌*◌, ◌<◌, ◌≤◌, List, [], ◌∷◌, ◌++◌, length, drop, Some, None, Ok, Err, sym, refl, ap, ◌∙◌, append_assoc, add-zero, arith, length-append, length-drop}
-use lib.ListN.{length-map}
+use Rattle.std.proofs.Common.{◌≡◌, ℕ, ◌+◌, ◌<◌, ◌≤◌, List, [], ◌∷◌, ◌++◌, length, drop, Some, None, Ok, Err, sym, ap, ◌∙◌, append_assoc, arith, length-append, length-drop}
 use Rattle.std.proofs.lemmas.List.{append-nil}
 use Rattle.loads.specs.Params.{TaskParams}
 use Rattle.loads.specs.Making.{task_refusal}
 use Rattle.format.specs.declared.before.Before.{Before}
 use Rattle.format.specs.declared.fault.ImageFault.{ImageFault}
 use Rattle.format.specs.Records.{Rec, TaskRec, task_rec, frame_rec, start, after, params_in, task_in, frame_in}
-use Rattle.format.specs.Decode.{part, decode, tasks_in, task_piece, frame_piece, records}
+use Rattle.format.specs.Decode.{part, decode, tasks_in, task_piece, frame_piece}
 use Rattle.format.specs.Prefixes.{params}
 use Rattle.format.proofs.Checks.{known}
 use Rattle.format.proofs.SecondReading.{Reads, reads_start, no_fault, at_end, more}

@@ -1,23 +1,20 @@
 -- Admitting the tasks of an image that has passed the check, record by record, gives what `filled` says.
-use Rattle.std.proofs.Common.{◌≡◌, ℕ, ◌+◌, ◌≤◌, Bool, true, false, cond, ◌&&◌, eqb, leb, List, [], ◌∷◌, ◌++◌, length, get_or, take, drop, set, Some, None, Ok, Err, Option, Result, sym, refl, ap, ◌∙◌, arith}
+use Rattle.std.proofs.Common.{◌≡◌, ℕ, ◌+◌, ◌≤◌, List, [], ◌∷◌, ◌++◌, length, get_or, take, drop, set, Some, None, Ok, Err, Option, Result, sym, refl, ap, ◌∙◌, arith}
 use Rattle.theory.specs.Meaning.{Meaning, Laws}
 use Rattle.loads.specs.declared.refusal.Refusal.{Refusal}
-use Rattle.loads.specs.declared.refusal.Refusal.TheVariants.{NoChannel, BadLabel, OutOfOrder}
 use Rattle.loads.specs.declared.entry.Entry.{Entry}
 use Rattle.loads.specs.Params.{TaskParams}
 use Rattle.loads.specs.Making.{task_refusal, made_task, unless}
 use Rattle.loads.specs.Channels.{Content, Channels, content, blank}
 use Rattle.plan.specs.declared.call.Call.{Call}
 use Rattle.plan.specs.declared.call.Call.TheVariants.{Admit}
-use Rattle.plan.specs.Labels.{good_label}
 use Rattle.plan.specs.Ledger.{admitted, if_ok, next, after}
 use Rattle.format.specs.declared.before.Before.{Before}
 use Rattle.format.specs.declared.fault.ImageFault.{ImageFault}
 use Rattle.format.specs.declared.fault.RecordFault.{RecordFault}
-use Rattle.format.specs.declared.fault.RecordFault.TheVariants as in_record
 use Rattle.format.specs.declared.fault.PlanFault.{PlanFault}
 use Rattle.format.specs.declared.fault.PlanFault.TheVariants.{Record, Refused}
-use Rattle.format.specs.Records.{Rec, task_rec, TaskRec, start, fault, out_of_range, field, params_in, task_in}
+use Rattle.format.specs.Records.{Rec, task_rec, TaskRec, start, field, params_in, task_in}
 use Rattle.format.specs.Decode.{part, decode, Piece, task_piece, frame_piece}
 use Rattle.format.specs.Parts.{outcome, raised}
 use Rattle.format.specs.Fills.{ranged, content_made, one_entered, entered, filled, Reached, KeptAgain}

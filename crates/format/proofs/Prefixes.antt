@@ -1,7 +1,7 @@
 -- Admitting the tasks of an image one after another into a new plan: the verdicts on the first task, on the first two,
 -- and so on, up to one that refuses.
-use Rattle.std.proofs.Common.{◌≡◌, ℕ, zero, suc, ◌+◌, ◌*◌, ◌≤◌, true, false, ltb, List, [], ◌∷◌, ◌++◌, map, length, get_or, take, drop, set, Some, None, Ok, Err, Option, Result, sym, refl, ap, ◌∙◌, subst, append_assoc, zero-add, arith, length-set}
-use Rattle.std.proofs.lemmas.List.{append-nil, drop-set-lt, map-append, take_more, drop_more, drop_all}
+use Rattle.std.proofs.Common.{◌≡◌, ℕ, zero, suc, ◌+◌, ◌*◌, ◌≤◌, false, ltb, List, [], ◌∷◌, ◌++◌, length, get_or, take, drop, set, Some, None, Ok, Err, Option, Result, sym, refl, ap, ◌∙◌, subst, append_assoc, arith, length-set}
+use Rattle.std.proofs.lemmas.List.{append-nil, drop-set-lt, map-append, take_more, drop_more}
 use Rattle.std.proofs.lemmas.Bool.{le-ltb}
 use Rattle.theory.specs.declared.verdict.Unfit.{Unfit}
 use Rattle.theory.specs.Jobs.{All}

@@ -1,29 +1,21 @@
 -- An image that fills a new plan is written again, byte for byte.
-use Rattle.std.proofs.Common.{◌≡◌, ℕ, zero, suc, ◌+◌, ◌-◌, ◌<◌, ◌≤◌, Bool, true, false, cond, ◌&&◌, eqb, leb, List, [], ◌∷◌, ◌++◌, map, length, get_or, drop, set, replicate, Some, None, Ok, Err, Option, Result, sym, refl, ap, ◌∙◌, subst, ap₂, append_assoc, add-zero, add-suc, suc-add, zero-add, arith, length-set}
-use Rattle.std.proofs.lemmas.List.{drop-set-lt, drop-drop, append-nil}
-use Rattle.std.proofs.lemmas.Bool.{leb-true, eqb-true}
+use Rattle.std.proofs.Common.{◌≡◌, ℕ, suc, ◌+◌, ◌<◌, List, [], ◌∷◌, ◌++◌, map, length, get_or, drop, set, Some, Ok, Err, Result, sym, refl, ap, ◌∙◌, subst, ap₂, append_assoc, zero-add, arith, length-set}
+use Rattle.std.proofs.lemmas.List.{drop-set-lt, append-nil}
 use Rattle.theory.specs.Meaning.{Meaning}
 use Rattle.loads.specs.declared.refusal.Refusal.{Refusal}
-use Rattle.loads.specs.declared.refusal.Refusal.TheVariants.{NoChannel, BadLabel, OutOfOrder}
 use Rattle.loads.specs.Params.{FrameParams}
-use Rattle.loads.specs.Making.{task_refusal}
-use Rattle.loads.specs.Channels.{Content, Channels, blank}
-use Rattle.plan.specs.Labels.{good_label}
+use Rattle.loads.specs.Channels.{Channels, blank}
 use Rattle.plan.specs.Ledger.{admitted}
 use Rattle.format.specs.declared.before.Before.{Before}
-use Rattle.format.specs.declared.fault.ImageFault.{ImageFault}
-use Rattle.format.specs.declared.fault.ImageFault.TheVariants.{Cut, Trailing}
 use Rattle.format.specs.declared.fault.RecordFault.{RecordFault}
-use Rattle.format.specs.declared.fault.RecordFault.TheVariants as in_record
 use Rattle.format.specs.declared.fault.PlanFault.{PlanFault}
 use Rattle.format.specs.declared.fault.PlanFault.TheVariants.{Record, Refused}
 use Rattle.format.specs.Bytes.{Bytes}
-use Rattle.format.specs.Records.{Rec, task_rec, frame_rec, TaskRec, size, start, after, fault, out_of_range}
-use Rattle.format.specs.Decode.{part, ended, records, decode, tasks_in, frames_in, Piece, rec_in}
+use Rattle.format.specs.Records.{Rec, task_rec, frame_rec, TaskRec, start, after}
+use Rattle.format.specs.Decode.{decode, tasks_in, frames_in}
 use Rattle.format.specs.Encode.{image, placed_in, tasks, encode}
 use Rattle.format.specs.Fills.{taken, entered, filled}
 use Rattle.format.specs.Statements.{WritesAgain}
-use Rattle.format.proofs.Front.{next, records_next}
 use Rattle.format.proofs.RoundTrip.{writes_back}
 use Rattle.format.proofs.Rising.{Lawful, lawful, task_passes, no_tasks, Empty, empty_blank, empty_from, tasks_set}
 

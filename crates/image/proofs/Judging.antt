@@ -5,10 +5,9 @@ use Rattle.theory.specs.declared.verdict.Unfit.{Unfit}
 use Rattle.theory.specs.Jobs.{All}
 use Rattle.theory.specs.Meaning.{Amounts, Rules, Meaning, Laws}
 use Rattle.theory.specs.Beside.{beside, both}
-use Rattle.theory.specs.Verdict.{busy, walk, look, Accepted}
+use Rattle.theory.specs.Verdict.{busy, walk, Accepted}
 use Rattle.theory.specs.Statements.{NeverLate}
 use Rattle.theory.proofs.Verdicts.{accepted_ok, yes_exactly}
-use Rattle.theory.proofs.Walk.{walk_is_look}
 use Rattle.theory.proofs.Never.{never_late}
 use Rattle.loads.specs.declared.refusal.Refusal.{Refusal}
 use Rattle.loads.specs.Params.{TaskParams, FrameParams, TaskRanges, FrameRanges}

@@ -1,14 +1,14 @@
 -- Tasks appended to a list one after another.
-use Rattle.std.proofs.Common.{◌≡◌, ℕ, ◌+◌, ◌<◌, ◌≤◌, ltb, List, [], ◌∷◌, ◌++◌, map, length, get_or, take, drop, Ok, Err, Result, sym, refl, ap, ◌∙◌, ap₂, append_assoc, arith, length-append, length-take}
+use Rattle.std.proofs.Common.{◌≡◌, ℕ, ◌+◌, ◌<◌, ◌≤◌, ltb, List, [], ◌∷◌, ◌++◌, map, length, get_or, take, Ok, Err, Result, sym, ap, ◌∙◌, arith, length-take}
 use lib.ListN.{length-map}
-use Rattle.std.proofs.lemmas.List.{at_drop_more, at_drop_all, append-nil, take-map, map_more}
+use Rattle.std.proofs.lemmas.List.{take-map, map_more}
 use Rattle.std.proofs.lemmas.Bool.{lt-ltb, cond-true}
 use Rattle.loads.specs.declared.refusal.Refusal.{Refusal}
 use Rattle.loads.specs.declared.refusal.Refusal.TheVariants.{NoChannel}
 use Rattle.loads.specs.declared.task.Task.{Task}
 use Rattle.loads.specs.Params.{TaskParams}
 use Rattle.loads.specs.Making.{task_params}
-use Rattle.loads.specs.Lists.{tasks_of, appended}
+use Rattle.loads.specs.Lists.{appended}
 
 abbrev Answer : Type 0
 Answer = Result (Unit {0}) Refusal × List TaskParams

@@ -1,3 +1,4 @@
+-- The definitions that contracts speak of, and what is stated of them.
 pub mod Params
 pub mod Refusals
 pub mod Making
@@ -8,15 +9,17 @@ pub mod Slots
 pub mod Train
 pub mod Statements
 pub mod Cases
-pub mod TaskList
-pub mod TaskJobs
-pub mod OneTask
+-- Lemmas, up to the proof that tasks and trains keep the laws of a load. An impl of `Load` cites that proof, and so they
+-- stand here and not under proofs/.
 pub mod Quotients
+pub mod OneTask
+pub mod TaskJobs
+pub mod TaskList
+pub mod TaskMarks
 pub mod TaskLoops
 pub mod Ranged
-pub mod TaskMarks
 pub mod TrainRanges
-pub mod TrainLaws
+pub mod TrainCounts
 pub mod TrainCircle
 pub mod TrainTally
-pub mod TrainCounts
+pub mod TrainLaws

@@ -1,5 +1,5 @@
 -- One task keeps the laws of the amounts, 1 to 4.
-use Rattle.std.specs.Prelude.{◌≡◌, ℕ, ◌+◌, ◌-◌, ◌*◌, ◌/◌, ◌%◌, ◌<◌, ◌≤◌, false, ◌⊎◌, ◌==◌, ◌≢◌, nat_le}
+use Rattle.std.specs.Prelude.{◌≡◌, ℕ, ◌+◌, ◌-◌, ◌*◌, ◌/◌, ◌%◌, ◌<◌, ◌≤◌, false, ◌⊎◌, ◌==◌, ◌≢◌, nat_le, refl}
 use Rattle.std.proofs.Common.{sym, ap, ◌∙◌, inl, inr, arith, mul-le-mul_left, mul-add, mul-one}
 use Rattle.std.proofs.Math.Nat.{zero-mod, add-div_right}
 use Rattle.std.proofs.lemmas.Bool.{cases_lt, cases_eq, lt-ltb, le-ltb, le-leb, lt-leb, ne_eqb, eqb-false, leb-false, and_left, and_cases}
@@ -14,6 +14,9 @@ module _ (x : TaskParams) (ok : TaskRanges x) where
 
   pub late : (t : ℕ) → x.deadline - x.jitter ≤ t → (task_due x t ≡ x.cost * (1 + (t + x.jitter - x.deadline) / x.period)) × (task_held x t ≡ 0)
   late t h = (rw (le-leb (x.deadline - x.jitter) t h), rw (le-ltb t (x.deadline - x.jitter) h))
+
+  idle : task_ready x 0 ≡ 0
+  idle = refl
 
   pub busy : (s : ℕ) → 1 ≤ s → task_ready x s ≡ x.cost * ceil (s + x.jitter) x.period
   busy s h = rw (ne_eqb s 0 (omega arith))

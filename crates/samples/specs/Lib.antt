@@ -1,2 +1,3 @@
 pub mod Idle
+-- Lemmas for the law of the load, which its impl cites.
 pub mod NoJobs

@@ -1,7 +1,6 @@
-ghost use Rattle.std.specs.Prelude.{◌≡◌, ◌+◌, [], refl};
+ghost use Rattle.std.specs.Prelude.{◌≡◌, []};
 ghost use Rattle.samples.specs.Idle.{no_amounts};
-ghost use Rattle.std.proofs.Common.{arith};
-ghost use Rattle.samples.specs.NoJobs.{no_work, none_among};
+ghost use Rattle.samples.specs.NoJobs.{idle_lawful};
 
 use theory::load::Load;
 
@@ -24,21 +23,7 @@ impl Load for Idle {
     // No amounts, and the empty list is the only list of jobs that is permitted: a job would be work that is due.
     ghost meaning = { λ _. record { amounts = no_amounts; Permits = λ js. js ≡ [] } };
 
-    ghost lawful = { λ x.
-        record {
-          rules = record {
-            due_zero = refl;
-            due_mono = λ s t h. omega arith;
-            ready_mono = λ s t h. omega arith;
-            mark_zero = refl;
-            due_still = λ t h. refl;
-            held_still = λ t h. refl;
-            sum_mono = λ s t h. omega arith;
-            shift = λ s t h. omega arith;
-          };
-          within = λ js w p u t. omega (arith, no_work u (u + t) js p);
-          beside_held = λ js w p u t z k m r d i n. absurd (none_among k js p m);
-        } };
+    ghost lawful = { λ _. idle_lawful };
 
     fn due(&self, _t: u64) -> u64 {
         0

@@ -1,5 +1,5 @@
 -- Each turn holds one task more; the last verdict is known from the start.
-use Rattle.std.proofs.Common.{◌≡◌, ℕ, ◌+◌, ◌-◌, ◌*◌, ◌≤◌, List, length, take, Some, Ok, Err, Option, Result, sym, refl, ap, ◌∙◌, arith, take_all}
+use Rattle.std.proofs.Common.{◌≡◌, ℕ, ◌+◌, ◌-◌, ◌*◌, length, take, Some, Ok, Err, Option, Result, sym, refl, ap, ◌∙◌, arith, take_all}
 use lib.ListN.{length-map}
 use Rattle.theory.specs.declared.verdict.Unfit.{Unfit}
 use Rattle.theory.specs.Meaning.{Laws}

@@ -1,5 +1,5 @@
 -- Accepted together, or told by the first that is refused.
-use Rattle.std.proofs.Common.{◌≡◌, ℕ, Ok, Err, Result, sym, ap, ◌∙◌, arith}
+use Rattle.std.proofs.Common.{◌≡◌, ℕ, Err, Result, sym, ap, ◌∙◌, arith}
 use Rattle.theory.specs.Meaning.{Laws}
 use Rattle.theory.specs.Beside.{beside}
 use Rattle.theory.proofs.Verdicts.{accepted_ok}

@@ -1,6 +1,6 @@
 -- Numbers in bytes, the most significant first.
 use Rattle.std.specs.Prelude.{ℕ, zero, suc, ◌+◌, ◌*◌, ◌/◌, ◌%◌, ◌^◌, ◌<◌, List, [], ◌∷◌, length}
-use Rattle.std.specs.List.{AllByRecursion as All}
+use Rattle.std.specs.List.{AllByRecursion}
 
 -- `n` in `w` bytes.
 abbrev pub bytes : ℕ → ℕ → List ℕ
@@ -14,4 +14,4 @@ value (b ∷ bs) = b * 256 ^ length bs + value bs
 
 -- Every element is a byte.
 abbrev pub Bytes : List ℕ → Type 0
-Bytes bs = All (λ b. b < 256) bs
+Bytes bs = AllByRecursion (λ b. b < 256) bs

@@ -15,7 +15,7 @@ use Rattle.loads.specs.Tasks.{tasks_meaning, tasks_amounts}
 use Rattle.loads.specs.Channels.{Channels, blank, filled}
 use Rattle.loads.specs.Train.{train_meaning}
 use Rattle.loads.proofs.Fewer.{none_filled}
-use Rattle.loads.specs.TrainLaws.{lawful}
+use Rattle.loads.specs.TrainLaws.{train_laws}
 use Rattle.plan.specs.Ledger.{plan, refusal_of}
 use Rattle.format.specs.declared.before.Before.{Before}
 use Rattle.format.specs.declared.fault.RecordFault.{RecordFault}
@@ -99,7 +99,7 @@ module _ (xs : List ℕ) (fs : List FrameParams) (k : Read xs fs) (fr : All Fram
   g = train_meaning fs
 
   lg : Laws g
-  lg = lawful fs fr
+  lg = train_laws fs fr
 
   -- The verdict on the train alone, as the judge has walked it.
   walked : (r : Result ℕ Unfit) → r ≡ walk g.amounts → judged xs ≡ over_train k.records r

@@ -171,8 +171,8 @@ short [] (k ∷ js) j z i a b = absurd i
 short (f ∷ fs) (k ∷ js) j z i (inl e) b = ones z k.pieces i.0.3 (subst (λ (x : Job). Among z x.pieces) e b)
 short (f ∷ fs) (k ∷ js) j z i (inr a) b = short (turn (f ∷ fs)) js j z i.2 a b
 
-pub lawful : (fs : List FrameParams) → All FrameRanges fs → Laws (train_meaning fs)
-lawful fs r = record {
+pub train_laws : (fs : List FrameParams) → All FrameRanges fs → Laws (train_meaning fs)
+train_laws fs r = record {
   rules = rules fs r;
   within = λ js p i. within_from fs r js i.0 i.1;
   beside_held = λ js p i u t z k a q d b two. absurd (let one = short (circle_from i.0 fs) js k z i.1 a b in omega arith);

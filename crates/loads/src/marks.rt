@@ -1,9 +1,9 @@
 ghost use Rattle.std.specs.Prelude.{◌≡◌};
-ghost use Rattle.theory.specs.Meaning.{later as LaterOf};
+ghost use Rattle.theory.specs.Meaning.{later as later_of};
 
 /// The later of two ticks, each of which may be absent.
 pub fn later(a: Option<u64>, b: Option<u64>) -> Option<u64>
-    ensures { result ≡ LaterOf a b }
+    ensures { result ≡ later_of a b }
 {
     match (a, b) {
         (Some(s), Some(t)) => Some(s.max(t)),

@@ -1,5 +1,5 @@
 ghost use Rattle.std.specs.Prelude.{◌≡◌};
-ghost use Rattle.loads.specs.Refusals.{number as number_of_lem, late_pair};
+ghost use Rattle.loads.specs.Refusals.{number as number_of, late_pair};
 
 /// Why a call refuses. Each case has a number, 1 to 17 in this order.
 #[derive(Clone, Copy, PartialEq, Eq, Debug)]
@@ -43,7 +43,7 @@ pub enum Refusal {
 impl Refusal {
     /// The number of the refusal.
     pub fn number(self) -> u32
-        ensures { result ≡ number_of_lem self }
+        ensures { result ≡ number_of self }
     {
         match self {
             Refusal::Cost => 1,

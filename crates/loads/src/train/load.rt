@@ -1,6 +1,6 @@
 ghost use Rattle.loads.specs.Train.{frames_of, train_meaning};
 ghost use Rattle.loads.specs.TrainRanges.{frames_ranged};
-ghost use Rattle.loads.specs.TrainLaws;
+ghost use Rattle.loads.specs.TrainLaws.{train_laws};
 
 use super::RampTrain;
 use super::marks::last_below;
@@ -11,7 +11,7 @@ use theory::load::Load;
 impl Load for RampTrain {
     ghost meaning = { λ r. train_meaning (frames_of r) };
 
-    ghost lawful = { λ x. TrainLaws.lawful (frames_of x) (frames_ranged x) };
+    ghost lawful = { λ x. train_laws (frames_of x) (frames_ranged x) };
 
     fn due(&self, t: u64) -> u64 {
         most_due(self.frames(), t.min(100_000_000)).min(1 << 40)

@@ -1,7 +1,7 @@
 ghost use Rattle.std.specs.Prelude.{◌≡◌, ◌+◌, ◌-◌, ◌%◌, ◌<◌, ◌≤◌, map, length};
 ghost use Rattle.theory.specs.Meaning.{last_mark};
 ghost use Rattle.loads.specs.Making.{frame_params};
-ghost use Rattle.loads.specs.Train.{cycle, circle_from, any_of, hits, mark_from, rests_of, train_amounts};
+ghost use Rattle.loads.specs.Train.{cycle, circle_from, hits, mark_from, rests_of, train_amounts};
 
 use super::sums::cycle_of;
 use crate::frame::Frame;

@@ -15,13 +15,13 @@ use Rattle.loads.specs.Lists.{tasks_of}
 use Rattle.loads.specs.Train.{frames_of, train_meaning}
 use Rattle.loads.specs.TaskLoops.{list_ranged, list_few}
 use Rattle.loads.proofs.Packing.{one_more_held}
-use Rattle.loads.specs.TrainLaws.{lawful}
+use Rattle.loads.specs.TrainLaws.{train_laws}
 use Rattle.loads.specs.TrainRanges.{frames_ranged}
 use Rattle.format.proofs.Prefixes.{laws_of, turn_on, turn_refused}
 use Rattle.image.proofs.verdict.first_refused.Goals as goal
 
 laws : (l : TaskList) (train : RampTrain) → Laws (beside (tasks_meaning (tasks_of l)) (train_meaning (frames_of train)))
-laws l train = laws_of (train_meaning (frames_of train)) (lawful (frames_of train) (frames_ranged train)) (tasks_of l) (list_ranged l)
+laws l train = laws_of (train_meaning (frames_of train)) (train_laws (frames_of train) (frames_ranged train)) (tasks_of l) (list_ranged l)
 
 -- The verdict of a turn, over the train as it was at the start.
 over : (r : Result ℕ Unfit) (l : TaskList) (now train : RampTrain) → now ≡ train → r ≡ walk (beside (tasks_meaning (tasks_of l)) (train_meaning (frames_of now))).amounts

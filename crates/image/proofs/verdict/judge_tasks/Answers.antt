@@ -11,7 +11,7 @@ use Rattle.loads.specs.Tasks.{tasks_meaning}
 use Rattle.loads.specs.Lists.{tasks_of}
 use Rattle.loads.specs.Train.{frames_of, train_meaning}
 use Rattle.loads.specs.TaskLoops.{list_ranged}
-use Rattle.loads.specs.TrainLaws.{lawful}
+use Rattle.loads.specs.TrainLaws.{train_laws}
 use Rattle.loads.specs.TrainRanges.{frames_ranged}
 use Rattle.format.specs.declared.fault.PlanFault.{PlanFault}
 use Rattle.format.specs.declared.fault.PlanFault.TheVariants.{Refused}
@@ -20,11 +20,11 @@ use Rattle.image.specs.Verdict.{by_first}
 use Rattle.image.proofs.Judging.{together}
 use Rattle.image.proofs.verdict.judge_tasks.Goals as goal
 
-train_laws : (train : RampTrain) → Laws (train_meaning (frames_of train))
-train_laws train = lawful (frames_of train) (frames_ranged train)
+laws_of_train : (train : RampTrain) → Laws (train_meaning (frames_of train))
+laws_of_train train = train_laws (frames_of train) (frames_ranged train)
 
 laws : (tasks : TaskList) (train : RampTrain) → Laws (beside (tasks_meaning (tasks_of tasks)) (train_meaning (frames_of train)))
-laws tasks train = laws_of (train_meaning (frames_of train)) (train_laws train) (tasks_of tasks) (list_ranged tasks)
+laws tasks train = laws_of (train_meaning (frames_of train)) (laws_of_train train) (tasks_of tasks) (list_ranged tasks)
 
 pub first_refused-early-requires : goal.first_refused-early-requires
 first_refused-early-requires c = record { some = c.requires; refused = c.in-Err.ensures ∙ walk_is_look _ (laws c.args.plan.now.first c.args.plan.now.second).rules }
@@ -33,7 +33,7 @@ pub returns-in-Ok : goal.returns-in-Ok
 returns-in-Ok c =
     let e = c.in-Ok.ensures in
     record {
-      says = together (train_meaning (frames_of c.args.plan.now.second)) (train_laws c.args.plan.now.second) (tasks_of c.args.plan.now.first) (list_ranged c.args.plan.now.first) c.in-Ok.busy e;
+      says = together (train_meaning (frames_of c.args.plan.now.second)) (laws_of_train c.args.plan.now.second) (tasks_of c.args.plan.now.first) (list_ranged c.args.plan.now.first) c.in-Ok.busy e;
       safe = λ w p. accepted_ok _ (laws c.args.plan.now.first c.args.plan.now.second).rules c.in-Ok.busy e;
     }
 

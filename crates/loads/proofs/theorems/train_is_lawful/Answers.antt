@@ -1,5 +1,5 @@
-use Rattle.loads.specs.TrainLaws.{lawful}
+use Rattle.loads.specs.TrainLaws.{train_laws}
 use Rattle.loads.proofs.theorems.train_is_lawful.Goals as goal
 
 pub returns : goal.returns
-returns c = lawful
+returns c = train_laws

@@ -4,8 +4,8 @@
  * busy period, by going from 1 to ready(1) and on until nothing changes, and then the walk from the last
  * mark below it. Numbers are 64 bits wide. It is not proved, and nothing but the benchmark uses it.
  *
- * The tasks stand one after another, without gaps. With -DCHANNELS they stand in 64 channels, as in the
- * library, and every question goes through all of these.
+ * The tasks stand one after another, without gaps. With -DCHANNELS they stand in 64 channels, as in a
+ * task table of the library, and every question goes through all of these.
  */
 #include <stdint.h>
 #include <string.h>

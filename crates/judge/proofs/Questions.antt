@@ -1,5 +1,6 @@
 -- What the answers to the questions say of claims and marks.
 use Rattle.std.proofs.Common.{◌≡◌, ℕ, suc, ◌+◌, ◌^◌, ◌<◌, ◌≤◌, min, Bool, false, eqb, Some, None, Option, sym, ap, ◌∙◌, subst, inl, inr, add-zero, arith}
+use Rattle.std.specs.Option.{option_eq}
 use Rattle.std.proofs.lemmas.Bool.{eq-eqb, ne_eqb, cases_eq}
 use Rattle.theory.specs.Meaning.{Amounts, Rules, claim, answered, last_mark}
 use Rattle.theory.proofs.LastMark.{Last, last_says}
@@ -28,7 +29,7 @@ upto k t o h e =
     let q : o ≡ last_mark k (suc t) = e ∙ ap (last_mark k) n in
     subst (λ x. Last k (suc t) x) (sym q) (last_says k (suc t))
 
-pub mark_found : (k : ℕ → Bool) (t s : ℕ) → t < 100000000 → Some s ≡ last_mark k (min (t + 1) 100000000) → eqb s t ≡ k t
+mark_found : (k : ℕ → Bool) (t s : ℕ) → t < 100000000 → Some s ≡ last_mark k (min (t + 1) 100000000) → eqb s t ≡ k t
 mark_found k t s h e =
     let says : Last k (suc t) (Some s) = upto k t (Some s) h e in
     elim (cases_eq s t) [
@@ -36,5 +37,10 @@ mark_found k t s h e =
       | inr y ↦ (ne_eqb s t y ∙ sym (says.2 t (omega arith) (omega arith)))
     ]
 
-pub mark_absent : (k : ℕ → Bool) (t : ℕ) → t < 100000000 → None ≡ last_mark k (min (t + 1) 100000000) → false ≡ k t
+mark_absent : (k : ℕ → Bool) (t : ℕ) → t < 100000000 → None ≡ last_mark k (min (t + 1) 100000000) → false ≡ k t
 mark_absent k t h e = let says : Last k (suc t) None = upto k t None h e in sym (says t (omega arith))
+
+-- A tick is a mark exactly where the last mark below the next tick is that tick.
+pub mark_is_last : (k : ℕ → Bool) (t : ℕ) (o : Option ℕ) → t < 100000000 → o ≡ last_mark k (min (t + 1) 100000000) → option_eq eqb o (Some t) ≡ k t
+mark_is_last k t None h e = mark_absent k t h e
+mark_is_last k t (Some s) h e = mark_found k t s h e

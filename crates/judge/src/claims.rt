@@ -18,8 +18,5 @@ pub(crate) fn is_mark<L: Load>(load: &L, t: u64) -> bool
     requires { t < 100000000 }
     ensures { result ≡ (L.Load.meaning load.now).amounts.mark t }
 {
-    match load.last_mark(t + 1) {
-        Some(s) => s == t,
-        None => false,
-    }
+    load.last_mark(t + 1) == Some(t)
 }

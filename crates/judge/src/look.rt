@@ -10,9 +10,7 @@ use theory::verdict::Unfit;
 pub fn audit<L: Load>(load: &L) -> Result<u64, Unfit>
     ensures { result ≡ look (L.Load.meaning load.now).amounts }
 {
-    let Some(busy) = busy_period(load) else {
-        return Err(Unfit::NotClosed);
-    };
+    let busy = busy_period(load).ok_or(Unfit::NotClosed)?;
     let mut worst = None;
     for t in 0..busy {
         let claimed = claim_at(load, t);

@@ -11,9 +11,7 @@ use theory::verdict::Unfit;
 pub fn judge<L: Load>(load: &L) -> Result<u64, Unfit>
     ensures { result ≡ walk (L.Load.meaning load.now).amounts }
 {
-    let Some(busy) = busy_period(load) else {
-        return Err(Unfit::NotClosed);
-    };
+    let busy = busy_period(load).ok_or(Unfit::NotClosed)?;
     let mut next = load.last_mark(busy);
     while let Some(t) = next {
         let claimed = claim_at(load, t);

@@ -1,6 +1,6 @@
 pub mod Pushes
-pub mod Sizes
-pub mod Slots
+pub mod Ceil
+pub mod PlaceLoops
 pub mod Packing
 pub mod Fewer
 pub mod Labels

@@ -48,6 +48,14 @@ held_content (Some e) = Some (content e)
 abbrev pub slot_content : Slot → Option Content
 slot_content s = held_content s.held
 
+-- The parameters of the task in a slot, if there is one.
+abbrev pub held_params : Option Entry → Option TaskParams
+held_params None = None
+held_params (Some e) = Some (task_params e.task)
+
+abbrev pub slot_params : Slot → Option TaskParams
+slot_params s = held_params s.held
+
 abbrev pub channels : Table Slot → Channels
 channels t = map slot_content t.slots
 

@@ -13,4 +13,3 @@ pub struct TaskList {
 
 pub mod load;
 pub mod make;
-mod sums;

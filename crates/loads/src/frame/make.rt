@@ -3,6 +3,7 @@ ghost use Rattle.loads.specs.Params.{frame};
 ghost use Rattle.loads.specs.Making.{made_frame, frame_made, frame_params};
 
 use super::Frame;
+use crate::ranges::check_ranges;
 use crate::refusal::Refusal;
 
 impl Frame {
@@ -10,15 +11,7 @@ impl Frame {
     pub fn new(cost: u32, deadline: u32, gap: u32) -> Result<Frame, Refusal>
         ensures { frame_made result ≡ made_frame (frame cost deadline gap) }
     {
-        if cost < 1 || cost > 10_000_000 {
-            return Err(Refusal::Cost);
-        }
-        if gap < 1 || gap > 10_000_000 {
-            return Err(Refusal::Period);
-        }
-        if deadline < 1 || deadline > 100_000_000 {
-            return Err(Refusal::Deadline);
-        }
+        check_ranges(cost, gap, deadline)?;
         Ok(Frame {
             cost,
             deadline,

@@ -4,7 +4,8 @@ ghost use Rattle.loads.specs.TaskList.{tasks_laws};
 ghost use Rattle.loads.specs.TaskLoops.{list_ranged};
 
 use super::TaskList;
-use super::sums::{last_below, longest_held, total_due, total_ready};
+use crate::places::{largest, latest, total};
+use crate::ticks::Ticks;
 use theory::load::Load;
 
 /// A list of tasks is a load: its tasks side by side.
@@ -14,18 +15,22 @@ impl Load for TaskList {
     ghost lawful = { λ x. tasks_laws (tasks_of x) (list_ranged x) };
 
     fn due(&self, t: u64) -> u64 {
-        total_due(self.tasks(), t.min(100_000_000))
+        let t = Ticks::upto(t);
+        total(self.tasks(), |task| task.due(t))
     }
 
     fn held(&self, t: u64) -> u64 {
-        longest_held(self.tasks(), t.min(100_000_000)).min(1 << 40)
+        let t = Ticks::upto(t);
+        largest(self.tasks(), |task| task.held(t))
     }
 
     fn ready(&self, s: u64) -> u64 {
-        total_ready(self.tasks(), s.min(100_000_000))
+        let s = Ticks::upto(s);
+        total(self.tasks(), |task| task.ready(s))
     }
 
     fn last_mark(&self, t: u64) -> Option<u64> {
-        last_below(self.tasks(), t.min(100_000_000))
+        let t = Ticks::upto(t);
+        latest(self.tasks(), |task| task.last_mark(t))
     }
 }

@@ -1,9 +1,20 @@
-ghost use Rattle.loads.specs.Channels.{table, channels};
+ghost use Rattle.loads.specs.Channels.{table, channels, slot_params};
 ghost use Rattle.loads.specs.Ranged.{table_laws};
 
 use super::{Slot, Table};
-use crate::marks::later;
+use crate::places::{Place, largest, latest, total};
+use crate::task::Task;
+use crate::ticks::Ticks;
 use theory::load::Load;
+
+/// A channel is a place of a task.
+impl Place for Slot {
+    ghost held = { slot_params };
+
+    fn task(&self) -> Option<&Task> {
+        self.held.as_ref().map(|entry| &entry.task)
+    }
+}
 
 /// A table is a load: its tasks side by side.
 impl Load for Table<Slot> {
@@ -12,46 +23,22 @@ impl Load for Table<Slot> {
     ghost lawful = { λ x. table_laws x };
 
     fn due(&self, t: u64) -> u64 {
-        let t = t.min(100_000_000);
-        let mut sum: u64 = 0;
-        for slot in &self.slots {
-            if let Some(entry) = &slot.held {
-                sum += entry.task.due(t);
-            }
-        }
-        sum.min(1 << 40)
+        let t = Ticks::upto(t);
+        total(&self.slots, |task| task.due(t))
     }
 
     fn held(&self, t: u64) -> u64 {
-        let t = t.min(100_000_000);
-        let mut longest: u64 = 0;
-        for slot in &self.slots {
-            if let Some(entry) = &slot.held {
-                longest = longest.max(entry.task.held(t));
-            }
-        }
-        longest.min(1 << 40)
+        let t = Ticks::upto(t);
+        largest(&self.slots, |task| task.held(t))
     }
 
     fn ready(&self, s: u64) -> u64 {
-        let s = s.min(100_000_000);
-        let mut sum: u64 = 0;
-        for slot in &self.slots {
-            if let Some(entry) = &slot.held {
-                sum += entry.task.ready(s);
-            }
-        }
-        sum.min(1 << 40)
+        let s = Ticks::upto(s);
+        total(&self.slots, |task| task.ready(s))
     }
 
     fn last_mark(&self, t: u64) -> Option<u64> {
-        let t = t.min(100_000_000);
-        let mut last = None;
-        for slot in &self.slots {
-            if let Some(entry) = &slot.held {
-                last = later(last, entry.task.last_mark(t));
-            }
-        }
-        last
+        let t = Ticks::upto(t);
+        latest(&self.slots, |task| task.last_mark(t))
     }
 }

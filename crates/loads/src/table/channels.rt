@@ -8,27 +8,14 @@ use crate::refusal::Refusal;
 /// The highest channel.
 const LAST: u8 = 63;
 
-/// Whether two labels have the same bytes.
-fn is_same(a: &[u8; 16], b: &[u8; 16]) -> bool
-    ensures { result ≡ same a.now b.now }
-{
-    for i in 0..16 {
-        if a[i] != b[i] {
-            return false;
-        }
-    }
-    true
-}
-
 impl Slot {
     /// Whether the channel is filled and has that label.
     fn bears(&self, label: &[u8; 16]) -> bool
         ensures { result ≡ bears_label (slot_content self.now) label.now }
     {
-        match &self.held {
-            Some(entry) => is_same(&entry.label, label),
-            None => false,
-        }
+        self.held
+            .as_ref()
+            .is_some_and(|entry| entry.label == *label)
     }
 }
 
@@ -46,10 +33,11 @@ impl Table<Slot> {
     pub fn get(&self, channel: u8) -> Result<Option<Entry>, Refusal>
         ensures { read_content result ≡ held_at (channels self.now) channel }
     {
-        if channel > LAST {
-            return Err(Refusal::NoChannel);
-        }
-        Ok(self.slots[channel as usize].held)
+        let slot = self
+            .slots
+            .get(usize::from(channel))
+            .ok_or(Refusal::NoChannel)?;
+        Ok(slot.held)
     }
 
     /// Puts this in the place of what the channel holds, and changes no other channel; or refusal 7.
@@ -59,7 +47,7 @@ impl Table<Slot> {
         if channel > LAST {
             return Err(Refusal::NoChannel);
         }
-        self.slot(channel as usize).put(held);
+        self.slot(usize::from(channel)).put(held);
         Ok(())
     }
 
@@ -67,11 +55,7 @@ impl Table<Slot> {
     pub fn find(&self, label: &[u8; 16]) -> Option<u8>
         ensures { result ≡ found_from 0 (channels self.now) label.now }
     {
-        for c in 0..64u8 {
-            if self.slots[c as usize].bears(label) {
-                return Some(c);
-            }
-        }
-        None
+        let channel = self.slots.iter().position(|slot| slot.bears(label));
+        channel.map(|c| c as u8)
     }
 }

@@ -3,6 +3,7 @@ ghost use Rattle.loads.specs.Params.{task};
 ghost use Rattle.loads.specs.Making.{made_task, task_made, task_params};
 
 use super::Task;
+use crate::ranges::check_ranges;
 use crate::refusal::Refusal;
 
 impl Task {
@@ -16,15 +17,7 @@ impl Task {
     ) -> Result<Task, Refusal>
         ensures { task_made result ≡ made_task (task cost period deadline jitter section) }
     {
-        if cost < 1 || cost > 10_000_000 {
-            return Err(Refusal::Cost);
-        }
-        if period < 1 || period > 10_000_000 {
-            return Err(Refusal::Period);
-        }
-        if deadline < 1 || deadline > 100_000_000 {
-            return Err(Refusal::Deadline);
-        }
+        check_ranges(cost, period, deadline)?;
         if jitter >= period || jitter >= deadline {
             return Err(Refusal::Jitter);
         }

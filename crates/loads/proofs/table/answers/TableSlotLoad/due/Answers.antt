@@ -1,38 +1,10 @@
--- The sum over the channels is what the table has due, cut at 2^40, and nothing overflows on the way.
-use Rattle.std.proofs.Common.{◌≡◌, ◌≤◌, min, length, ap, ◌∙◌, arith, rules}
-use Rattle.loads.specs.Ranged.{tasks_in}
+use Rattle.std.proofs.Common.{min, ◌∙◌, rules}
 use Rattle.loads.specs.Tasks.{tasks_meaning, tasks_amounts, total, task_due}
-use Rattle.loads.proofs.Slots.{total_some, total_none, total_end}
-use Rattle.loads.proofs.Sizes.{total_small, due_small}
+use Rattle.loads.proofs.PlaceLoops.{slots_stand}
 use Rattle.loads.proofs.table.answers.TableSlotLoad.due.Goals as goal
-use Rattle.loads.proofs.table.answers.TableSlotLoad.due.Goals.{in-Some, in_default}
-
-pub overflow_add-sum : goal.overflow_add-sum
-overflow_add-sum c =
-    let n : length c.args.self.now.slots ≡ 64 = search rules in
-    let u : c.min-t.result ≤ 100000000 = omega arith in
-    let w = total_some c.args.self.now.slots c.loop-slot.slot-index (λ x. task_due x c.min-t.result) c.loop-slot.sum c.slot-item.result c.in-Some.entry (omega arith) c.in-Some.is c.loop-slot.invariant.0 in
-    let b = total_small (λ x. task_due x c.min-t.result) (due_small c.min-t.result u) c.args.self.now.slots in
-    let e = c.due-sum.ensures in
-    search rules
-
-pub loop-slot-preserved : goal.loop-slot-preserved
-loop-slot-preserved c =
-    let n : length c.args.self.now.slots ≡ 64 = search rules in (
-      elim c.match-slot.branch [
-        | in-Some w ↦
-            (let r = total_some c.args.self.now.slots c.loop-slot.slot-index (λ x. task_due x c.min-t.result) c.loop-slot.sum c.slot-item.result w.in-Some.entry (omega arith) w.in-Some.is c.loop-slot.invariant.0 in
-            omega (arith, w.sum-is, w.due-sum.ensures, r))
-        | in_default w ↦
-            (let r = total_none c.args.self.now.slots c.loop-slot.slot-index (λ x. task_due x c.min-t.result) c.loop-slot.sum c.slot-item.result (omega arith) w.in_default.is c.loop-slot.invariant.0 in
-            omega (arith, w.sum-is, r))
-      ],
-      λ _. n,
-    )
 
 pub returns : goal.returns
 unfolding tasks_meaning tasks_amounts
 returns c =
-    let n : length c.args.self.now.slots ≡ 64 = c.loop-slot.invariant.1 (omega arith) in
-    let e = total_end c.args.self.now.slots c.loop-slot.slot-index (λ x. task_due x c.min-t.result) c.loop-slot.sum (omega arith) c.loop-slot.invariant.0 in
-    c.min.ensures ∙ ap (λ n. min n 1099511627776) (e ∙ ap (λ n. total (λ x. task_due x n) (tasks_in c.args.self.now.slots)) c.min-t.ensures)
+    c.total.ensures (λ x. task_due x c.upto-t.result) (λ x r m. search rules)
+    ∙ (λ i. min (total (λ x. task_due x (c.upto-t.ensures i)) (slots_stand c.args.self.now.slots i)) 1099511627776)

@@ -1,19 +1,13 @@
--- The first channel found is the lowest with that label.
-use Rattle.std.proofs.Common.{◌≡◌, length, sym, arith, rules}
-use Rattle.loads.proofs.Labels.{here, not_here, nowhere}
+use Rattle.std.proofs.Common.{◌∙◌, rules, tests}
+use Rattle.std.proofs.lemmas.Iterator.{YieldsList-from_slice}
+use Rattle.std.proofs.lemmas.Iterator.Search.{position_from_yields_List}
+use Rattle.loads.specs.Channels.{slot_content, bears}
+use Rattle.loads.proofs.Labels.{found_is}
 use Rattle.loads.proofs.table.channels.Table+Slot.find.Goals as goal
-
-pub returns-then-bears : goal.returns-then-bears
-returns-then-bears c =
-    let n : length c.args.self.now.slots ≡ 64 = search rules in
-    here c.args.self.now.slots c.args.label.now c.loop-c.c c.index-self-c.result (omega arith) c.loop-c.invariant.0 (sym c.if-bears.ensures)
-
-pub loop-c-preserved : goal.loop-c-preserved
-loop-c-preserved c =
-    let n : length c.args.self.now.slots ≡ 64 = search rules in
-    (not_here c.args.self.now.slots c.args.label.now c.loop-c.c c.index-self-c.result (omega arith) c.loop-c.invariant.0 (sym c.if-bears.ensures), λ _. n)
 
 pub returns : goal.returns
 returns c =
-    let n : length c.args.self.now.slots ≡ 64 = c.loop-c.invariant.1 (omega arith) in
-    nowhere c.args.self.now.slots c.args.label.now c.loop-c.c (omega arith) c.loop-c.invariant.0
+    let found =
+    position_from_yields_List (λ s. bears (slot_content s) c.args.label.now) _ _ c.position-channel.result c.position-channel.ensures.ran (YieldsList-from_slice c.args.self.now.slots (cc)) (λ x b q k. search (rules, tests))
+    ∙ found_is c.args.self.now.slots c.args.label.now in
+    search rules

@@ -1,3 +1,1 @@
-mod Pieces
-mod Held
-mod Cuts
+mod Known

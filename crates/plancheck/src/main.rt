@@ -2,11 +2,10 @@
 
 #![tactic(auto)]
 
-use crate::input::reading::judge_first;
+use crate::reading::judge_first;
 use std::io;
 
-mod input;
-mod source;
+mod reading;
 #[cfg(test)]
 mod tests;
 

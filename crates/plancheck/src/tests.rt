@@ -1,11 +1,10 @@
-ghost use Rattle.std.specs.Prelude.{◌≡◌, take, IfOk};
+ghost use Rattle.std.specs.Prelude.{◌≡◌, Some, take, IfOk};
 ghost use Rattle.image.specs.Verdict.{judged, told};
-ghost use Rattle.plancheck.specs.Source.{Cut};
 
-use crate::input::reading::judge_first;
-use crate::source::Source;
+use crate::reading::judge_first;
 use image::outcome::Outcome;
 use std::io;
+use std::io::Read;
 use std::test::Fail;
 
 /// Bytes in memory, delivered in pieces of at most `most` bytes, or of one byte where that is 0.
@@ -15,10 +14,10 @@ struct Pieces<'a> {
     most: usize,
 }
 
-impl<'a> Source for Pieces<'a> {
-    ghost gave = { λ s xs t. Cut s.left.now xs t.left.now };
+impl<'a> Read for Pieces<'a> {
+    ghost remaining = { λ s. Some s.left.now };
 
-    fn deliver(&mut self, buf: &mut [u8]) -> io::Result<usize> {
+    fn read(&mut self, buf: &mut [u8]) -> io::Result<usize> {
         let n = self.left.len().min(buf.len()).min(self.most.max(1));
         buf[..n].copy_from_slice(&self.left[..n]);
         self.left = &self.left[n..];

@@ -13,26 +13,8 @@ const LARGEST: usize = 64 * 37 + 16 * 14 + 2;
 pub(crate) fn comes_back(image: &[u8]) -> Result<bool, PlanFault> {
     let mut train = RampTrain::new();
     take_frames(&mut train, image)?;
-    let mut guest = RampTrain::new();
-    take_frames(&mut guest, image)?;
-    let mut plan = Plan::make(guest);
+    let mut plan = Plan::make(train);
     fill(&mut plan, image)?;
     let mut out = [0u8; LARGEST];
-    match write(&plan, &train, &mut out) {
-        Ok(n) => Ok(same(&out[0..n], image)),
-        Err(_) => Ok(false),
-    }
-}
-
-/// Whether two texts are the same, byte by byte.
-fn same(a: &[u8], b: &[u8]) -> bool {
-    if a.len() != b.len() {
-        return false;
-    }
-    for i in 0..a.len() {
-        if a[i] != b[i] {
-            return false;
-        }
-    }
-    true
+    Ok(write(&plan, &train, &mut out).is_ok_and(|n| out.get(..n) == Some(image)))
 }

@@ -6,10 +6,8 @@
 #![tactic(auto)]
 
 mod back;
-mod hex;
 
 use crate::back::comes_back;
-use crate::hex::bytes_in;
 use image::outcome::Outcome;
 use image::verdict::verdict;
 use std::io;
@@ -31,9 +29,11 @@ fn report(rt: &HostRuntime, image: &[u8]) -> io::Result<()> {
 fn main(rt: HostRuntime) -> io::Result<()> {
     let heap = rt.alloc();
     for line in BufReader::new(heap, rt.stdin())?.lines(heap) {
-        match bytes_in(heap, line?.as_bytes())? {
-            Some(image) => report(&rt, image.as_slice())?,
-            None => println!(rt; "bad line")?,
+        let line = line?;
+        let mut image = vec![in heap; 0u8; line.len() / 2]?;
+        match hex::decode_to_slice(line.as_str(), image.as_mut_slice()) {
+            Ok(()) => report(&rt, image.as_slice())?,
+            Err(_) => println!(rt; "bad line")?,
         }
     }
     Ok(())

@@ -1,2 +1,0 @@
-pub mod Source
-pub mod Input

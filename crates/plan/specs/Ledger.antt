@@ -2,12 +2,12 @@
 -- and the calls' arguments alone.
 use Rattle.std.specs.Prelude.{ℕ, cond, List, [], ◌∷◌, Some, None, Ok, Err, Option, Result, nat_lt, slice_index_or, slice_set}
 use Rattle.theory.specs.declared.verdict.Unfit.{Unfit}
-use Rattle.theory.specs.declared.verdict.Unfit.TheVariants as unfit
 use Rattle.theory.specs.Meaning.{Meaning}
 use Rattle.theory.specs.Beside.{beside}
 use Rattle.theory.specs.Verdict.{look}
 use Rattle.loads.specs.declared.refusal.Refusal.{Refusal}
-use Rattle.loads.specs.declared.refusal.Refusal.TheVariants.{BadLabel, NoChannel, ChannelFilled, ChannelEmpty, NotClosed, Late}
+use Rattle.loads.specs.declared.refusal.Refusal.TheVariants.{BadLabel, NoChannel, ChannelFilled, ChannelEmpty}
+pub use Rattle.loads.specs.Refusals.{refusal_of}
 use Rattle.loads.specs.declared.entry.Entry.{Entry}
 use Rattle.loads.specs.Channels.{Content, Channels, table, channels, content}
 use Rattle.plan.specs.declared.plan.Plan.{Plan}
@@ -28,11 +28,6 @@ ledger p = channels p.tasks
 -- What a plan means: the ledger's tasks beside the guest.
 abbrev pub plan : Meaning → Ledger → Meaning
 plan g l = beside (table l) g
-
--- The refusal that a verdict other than yes stands for: 10, or 11 with mark and claim.
-abbrev pub refusal_of : Unfit → Refusal
-refusal_of unfit.NotClosed = NotClosed
-refusal_of (unfit.Late late) = Late late
 
 -- Granted by a yes, and else refused.
 abbrev pub by_verdict : Result ℕ Unfit → Result (Unit {0}) Refusal

@@ -40,11 +40,7 @@ fn table_of(tasks: &[Numbers]) -> Result<TaskTable, Refusal> {
 
 /// A verdict, with the refusal that a plan gives for it.
 fn seen(verdict: Result<u64, Unfit>) -> Result<u64, Refusal> {
-    match verdict {
-        Ok(busy) => Ok(busy),
-        Err(Unfit::NotClosed) => Err(Refusal::NotClosed),
-        Err(Unfit::Late(late)) => Err(Refusal::Late(late)),
-    }
+    verdict.map_err(Refusal::from)
 }
 
 /// Checks that judge and audit both give this verdict.

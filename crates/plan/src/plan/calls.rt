@@ -1,6 +1,6 @@
 ghost use Rattle.std.specs.Prelude.{◌≡◌, ◌≤◌, [], Some, None, slice_index_or, slice_set};
 ghost use Rattle.loads.specs.Channels.{blank, content, held_content, found_from};
-ghost use Rattle.plan.specs.Ledger.{ledger, refusal_of, weighed, if_ok, admitted, replaced, retired, reading, read_entry, reply, told as told_reply, shown as shown_reply, answer_to, next};
+ghost use Rattle.plan.specs.Ledger.{ledger, weighed, if_ok, admitted, replaced, retired, reading, read_entry, reply, told as told_reply, shown as shown_reply, answer_to, next};
 ghost use Rattle.plan.specs.Promise.{Kept};
 ghost use Rattle.plan.specs.declared.call.Call.TheVariants.{Admit as admit_call, Replace as replace_call, Retire as retire_call};
 
@@ -12,17 +12,6 @@ use loads::entry::Entry;
 use loads::refusal::Refusal;
 use loads::table::Table;
 use theory::load::Load;
-use theory::verdict::Unfit;
-
-/// The refusal that a verdict gives.
-pub fn refusal(unfit: Unfit) -> Refusal
-    ensures { result ≡ refusal_of unfit }
-{
-    match unfit {
-        Unfit::NotClosed => Refusal::NotClosed,
-        Unfit::Late(late) => Refusal::Late(late),
-    }
-}
 
 /// The answer to a call that gives nothing but leave.
 fn told(good: Answer, r: Result<(), Refusal>) -> Answer
@@ -71,7 +60,7 @@ impl<G: Load> Plan<G> {
             Ok(_) => Ok(()),
             Err(unfit) => {
                 self.tasks.put(channel, old)?;
-                Err(refusal(unfit))
+                Err(unfit.into())
             }
         }
     }

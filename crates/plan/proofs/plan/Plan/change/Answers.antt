@@ -27,7 +27,7 @@ returns-in_ok-put-in-Err g c =
     let t = put_stands (channels c.put.new.self) (channels c.put-in-Err.new.self) c.args.channel (held_content c.args.old) c.put-in-Err.result c.requires.channel c.put-in-Err.ensures in
     let h = beside_laws (table (channels c.put.new.self)) m (table_laws c.put.new.self) (g.met.G.Load.lawful c.args.self.now.guest) in
     record {
-      says = ap Err c.refusal.ensures ∙ judged m (channels c.put.new.self) l c.args.channel (content c.args.entry) (Err c.in-Err.unfit) h s c.in-Err.ensures;
+      says = ap Err c.into.ensures ∙ judged m (channels c.put.new.self) l c.args.channel (content c.args.entry) (Err c.in-Err.unfit) h s c.in-Err.ensures;
       channels = restored l (channels c.put.new.self) (channels c.put-in-Err.new.self) c.args.channel (Some (content c.args.entry)) (held_content c.args.old) s c.requires.old t;
       guest = refl;
     }

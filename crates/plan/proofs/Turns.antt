@@ -5,9 +5,8 @@ use Rattle.std.proofs.lemmas.List.{take_more, take_more_set}
 use Rattle.theory.specs.Meaning.{Meaning, Laws}
 use Rattle.theory.specs.Statements.{NeverLate}
 use Rattle.plan.specs.declared.call.Call.{Call}
-use Rattle.plan.specs.declared.call.Answer.{Answer}
 use Rattle.loads.specs.Channels.{blank}
-use Rattle.plan.specs.Ledger.{Ledger, plan, Reply, reply, answer_to, next, after, answers_to}
+use Rattle.plan.specs.Ledger.{Ledger, plan, Answer, Reply, reply, answer_to, next, after, answers_to}
 use Rattle.plan.specs.Promise.{Kept}
 use Rattle.plan.proofs.Keep.{promise}
 

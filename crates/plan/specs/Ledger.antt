@@ -13,8 +13,8 @@ use Rattle.loads.specs.Channels.{Content, Channels, table, channels, content}
 use Rattle.plan.specs.declared.plan.Plan.{Plan}
 use Rattle.plan.specs.declared.call.Call.{Call}
 use Rattle.plan.specs.declared.call.Call.TheVariants.{Admit, Replace, Retire, Read}
-use Rattle.plan.specs.declared.call.Answer.{Answer}
-use Rattle.plan.specs.declared.call.Answer.TheVariants as answer
+use Rattle.plan.specs.declared.call.Done.{Done}
+use Rattle.plan.specs.declared.call.Done.TheVariants as done
 use Rattle.plan.specs.Labels.{good_label}
 
 -- 64 channels, each empty or with label and task.
@@ -74,12 +74,15 @@ pub data Reply : Type 0 where
   found : Content → Reply
   refused : Refusal → Reply
 
--- The code's answer, by plain numbers.
+-- The code's answer, and that answer by plain numbers.
+abbrev pub Answer : Type 0
+Answer = Result Done Refusal
+
 abbrev pub reply : Answer → Reply
-reply answer.Granted = granted
-reply answer.Retired = vacated
-reply (answer.Found e) = found (content e)
-reply (answer.Refused r) = refused r
+reply (Ok done.Granted) = granted
+reply (Ok done.Retired) = vacated
+reply (Ok (done.Found e)) = found (content e)
+reply (Err r) = refused r
 
 -- The reply to a call that gives nothing but leave: `good` where it is granted.
 abbrev pub told : Reply → Result (Unit {0}) Refusal → Reply

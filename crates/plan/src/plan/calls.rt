@@ -1,37 +1,17 @@
 ghost use Rattle.std.specs.Prelude.{◌≡◌, ◌≤◌, [], Some, None, slice_index_or, slice_set};
 ghost use Rattle.loads.specs.Channels.{blank, content, held_content, found_from};
-ghost use Rattle.plan.specs.Ledger.{ledger, weighed, if_ok, admitted, replaced, retired, reading, read_entry, reply, told as told_reply, shown as shown_reply, answer_to, next};
+ghost use Rattle.plan.specs.Ledger.{ledger, weighed, if_ok, admitted, replaced, retired, reading, read_entry, reply, answer_to, next};
 ghost use Rattle.plan.specs.Promise.{Kept};
 ghost use Rattle.plan.specs.declared.call.Call.TheVariants.{Admit as admit_call, Replace as replace_call, Retire as retire_call};
 
 use super::Plan;
-use crate::call::{Answer, Call};
+use crate::call::{Answer, Call, Done};
 use crate::label::is_label;
 use judge::walk::judge;
 use loads::entry::Entry;
 use loads::refusal::Refusal;
 use loads::table::Table;
 use theory::load::Load;
-
-/// The answer to a call that gives nothing but leave.
-fn told(good: Answer, r: Result<(), Refusal>) -> Answer
-    ensures { reply result ≡ told_reply (reply good) r }
-{
-    match r {
-        Ok(_) => good,
-        Err(e) => Answer::Refused(e),
-    }
-}
-
-/// The answer to a reading.
-fn shown(r: Result<Entry, Refusal>) -> Answer
-    ensures { reply result ≡ shown_reply (read_entry r) }
-{
-    match r {
-        Ok(entry) => Answer::Found(entry),
-        Err(e) => Answer::Refused(e),
-    }
-}
 
 impl<G: Load> Plan<G> {
     /// A plan over any guest, accepted or not, with no tasks.
@@ -56,13 +36,11 @@ impl<G: Load> Plan<G> {
         ensures guest { self.new.guest ≡ self.old.guest }
     {
         self.tasks.put(channel, Some(entry))?;
-        match judge(&*self) {
-            Ok(_) => Ok(()),
-            Err(unfit) => {
-                self.tasks.put(channel, old)?;
-                Err(unfit.into())
-            }
+        if let Err(unfit) = judge(&*self) {
+            self.tasks.put(channel, old)?;
+            return Err(unfit.into());
         }
+        Ok(())
     }
 
     /// Puts label and task into an empty channel.
@@ -74,11 +52,10 @@ impl<G: Load> Plan<G> {
         if !is_label(&entry.label) {
             return Err(Refusal::BadLabel);
         }
-        let held = self.tasks.get(channel)?;
-        match held {
-            Some(_) => Err(Refusal::ChannelFilled),
-            None => self.change(channel, entry, None),
+        if self.tasks.get(channel)?.is_some() {
+            return Err(Refusal::ChannelFilled);
         }
+        self.change(channel, entry, None)
     }
 
     /// Puts label and task into a filled channel, in place of what it holds.
@@ -90,10 +67,8 @@ impl<G: Load> Plan<G> {
         if !is_label(&entry.label) {
             return Err(Refusal::BadLabel);
         }
-        match self.tasks.get(channel)? {
-            Some(old) => self.change(channel, entry, Some(old)),
-            None => Err(Refusal::ChannelEmpty),
-        }
+        let old = self.read(channel)?;
+        self.change(channel, entry, Some(old))
     }
 
     /// Empties a filled channel.
@@ -102,20 +77,15 @@ impl<G: Load> Plan<G> {
         ensures channels { ledger self.new ≡ next (G.Load.meaning self.old.guest) (ledger self.old) (retire_call channel) }
         ensures guest { self.new.guest ≡ self.old.guest }
     {
-        match self.tasks.get(channel)? {
-            Some(_) => self.tasks.put(channel, None),
-            None => Err(Refusal::ChannelEmpty),
-        }
+        self.read(channel)?;
+        self.tasks.put(channel, None)
     }
 
     /// Label and task of a filled channel.
     pub fn read(&self, channel: u8) -> Result<Entry, Refusal>
         ensures { read_entry result ≡ reading (ledger self.now) channel }
     {
-        match self.tasks.get(channel)? {
-            Some(entry) => Ok(entry),
-            None => Err(Refusal::ChannelEmpty),
-        }
+        self.tasks.get(channel)?.ok_or(Refusal::ChannelEmpty)
     }
 
     /// The lowest filled channel with that label.
@@ -132,10 +102,10 @@ impl<G: Load> Plan<G> {
         ensures guest { self.new.guest ≡ self.old.guest }
     {
         match *call {
-            Call::Admit(channel, entry) => told(Answer::Granted, self.admit(channel, entry)),
-            Call::Replace(channel, entry) => told(Answer::Granted, self.replace(channel, entry)),
-            Call::Retire(channel) => told(Answer::Retired, self.retire(channel)),
-            Call::Read(channel) => shown(self.read(channel)),
+            Call::Admit(channel, entry) => self.admit(channel, entry).map(|()| Done::Granted),
+            Call::Replace(channel, entry) => self.replace(channel, entry).map(|()| Done::Granted),
+            Call::Retire(channel) => self.retire(channel).map(|()| Done::Retired),
+            Call::Read(channel) => self.read(channel).map(Done::Found),
         }
     }
 }

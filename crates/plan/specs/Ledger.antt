@@ -23,7 +23,11 @@ Ledger = Channels
 
 -- What a plan's own channels hold.
 abbrev pub ledger : {G : Type 0} → Plan G → Ledger
-ledger p = channels p.tasks
+ledger p = channels p.loads.first
+
+-- The load beside them.
+abbrev pub guest : {G : Type 0} → Plan G → G
+guest p = p.loads.second
 
 -- What a plan means: the ledger's tasks beside the guest.
 abbrev pub plan : Meaning → Ledger → Meaning

@@ -6,16 +6,14 @@ use theory::load::Load;
 
 /// A load with no work: a guest for a plan that is to have nothing but its own tasks.
 #[derive(Clone, Copy, Drop)]
-pub struct Idle {
-    pad: u8,
-}
+pub struct Idle;
 
 impl Idle {
     /// The load with no work.
     pub fn new() -> Idle
-        ensures { result ≡ (record { pad = 0 }) }
+        ensures { result ≡ (record {}) }
     {
-        Idle { pad: 0 }
+        Idle
     }
 }
 

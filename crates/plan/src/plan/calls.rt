@@ -1,10 +1,11 @@
 ghost use Rattle.std.specs.Prelude.{◌≡◌, ◌≤◌, [], Some, None, slice_index_or, slice_set};
 ghost use Rattle.loads.specs.Channels.{blank, content, held_content, found_from};
-ghost use Rattle.plan.specs.Ledger.{ledger, weighed, if_ok, admitted, replaced, retired, reading, read_entry, reply, answer_to, next};
+ghost use Rattle.plan.specs.Ledger.{ledger, guest, weighed, if_ok, admitted, replaced, retired, reading, read_entry, reply, answer_to, next};
 ghost use Rattle.plan.specs.Promise.{Kept};
 ghost use Rattle.plan.specs.declared.call.Call.TheVariants.{Admit as admit_call, Replace as replace_call, Retire as retire_call};
 
 use super::Plan;
+use crate::beside::Beside;
 use crate::call::{Answer, Call, Done};
 use crate::label::is_label;
 use judge::walk::judge;
@@ -15,14 +16,16 @@ use theory::load::Load;
 
 impl<G: Load> Plan<G> {
     /// A plan over any guest, accepted or not, with no tasks.
-    pub fn make(guest: G) -> Plan<G>
-        ensures guest { result.guest ≡ guest }
+    pub fn make(load: G) -> Plan<G>
+        ensures guest { guest result ≡ load }
         ensures channels { ledger result ≡ blank }
-        ensures kept { Kept (G.Load.meaning guest) [] [] [] (ledger result) }
+        ensures kept { Kept (G.Load.meaning load) [] [] [] (ledger result) }
     {
         Plan {
-            tasks: Table::new(),
-            guest,
+            loads: Beside {
+                first: Table::new(),
+                second: load,
+            },
         }
     }
 
@@ -31,13 +34,13 @@ impl<G: Load> Plan<G> {
     fn change(&mut self, channel: u8, entry: Entry, old: Option<Entry>) -> Result<(), Refusal>
         requires channel { channel ≤ 63 }
         requires old { held_content old ≡ slice_index_or (ledger self.old) channel None }
-        ensures says { result ≡ weighed (G.Load.meaning self.old.guest) (ledger self.old) channel (content entry) }
+        ensures says { result ≡ weighed (G.Load.meaning (guest self.old)) (ledger self.old) channel (content entry) }
         ensures channels { ledger self.new ≡ if_ok result (slice_set (ledger self.old) channel (Some (content entry))) (ledger self.old) }
-        ensures guest { self.new.guest ≡ self.old.guest }
+        ensures guest { guest self.new ≡ guest self.old }
     {
-        self.tasks.put(channel, Some(entry))?;
+        self.loads.first.put(channel, Some(entry))?;
         if let Err(unfit) = judge(&*self) {
-            self.tasks.put(channel, old)?;
+            self.loads.first.put(channel, old)?;
             return Err(unfit.into());
         }
         Ok(())
@@ -45,14 +48,14 @@ impl<G: Load> Plan<G> {
 
     /// Puts label and task into an empty channel.
     pub fn admit(&mut self, channel: u8, entry: Entry) -> Result<(), Refusal>
-        ensures says { result ≡ admitted (G.Load.meaning self.old.guest) (ledger self.old) channel (content entry) }
-        ensures channels { ledger self.new ≡ next (G.Load.meaning self.old.guest) (ledger self.old) (admit_call channel entry) }
-        ensures guest { self.new.guest ≡ self.old.guest }
+        ensures says { result ≡ admitted (G.Load.meaning (guest self.old)) (ledger self.old) channel (content entry) }
+        ensures channels { ledger self.new ≡ next (G.Load.meaning (guest self.old)) (ledger self.old) (admit_call channel entry) }
+        ensures guest { guest self.new ≡ guest self.old }
     {
         if !is_label(&entry.label) {
             return Err(Refusal::BadLabel);
         }
-        if self.tasks.get(channel)?.is_some() {
+        if self.loads.first.get(channel)?.is_some() {
             return Err(Refusal::ChannelFilled);
         }
         self.change(channel, entry, None)
@@ -60,9 +63,9 @@ impl<G: Load> Plan<G> {
 
     /// Puts label and task into a filled channel, in place of what it holds.
     pub fn replace(&mut self, channel: u8, entry: Entry) -> Result<(), Refusal>
-        ensures says { result ≡ replaced (G.Load.meaning self.old.guest) (ledger self.old) channel (content entry) }
-        ensures channels { ledger self.new ≡ next (G.Load.meaning self.old.guest) (ledger self.old) (replace_call channel entry) }
-        ensures guest { self.new.guest ≡ self.old.guest }
+        ensures says { result ≡ replaced (G.Load.meaning (guest self.old)) (ledger self.old) channel (content entry) }
+        ensures channels { ledger self.new ≡ next (G.Load.meaning (guest self.old)) (ledger self.old) (replace_call channel entry) }
+        ensures guest { guest self.new ≡ guest self.old }
     {
         if !is_label(&entry.label) {
             return Err(Refusal::BadLabel);
@@ -74,32 +77,32 @@ impl<G: Load> Plan<G> {
     /// Empties a filled channel.
     pub fn retire(&mut self, channel: u8) -> Result<(), Refusal>
         ensures says { result ≡ retired (ledger self.old) channel }
-        ensures channels { ledger self.new ≡ next (G.Load.meaning self.old.guest) (ledger self.old) (retire_call channel) }
-        ensures guest { self.new.guest ≡ self.old.guest }
+        ensures channels { ledger self.new ≡ next (G.Load.meaning (guest self.old)) (ledger self.old) (retire_call channel) }
+        ensures guest { guest self.new ≡ guest self.old }
     {
         self.read(channel)?;
-        self.tasks.put(channel, None)
+        self.loads.first.put(channel, None)
     }
 
     /// Label and task of a filled channel.
     pub fn read(&self, channel: u8) -> Result<Entry, Refusal>
         ensures { read_entry result ≡ reading (ledger self.now) channel }
     {
-        self.tasks.get(channel)?.ok_or(Refusal::ChannelEmpty)
+        self.loads.first.get(channel)?.ok_or(Refusal::ChannelEmpty)
     }
 
     /// The lowest filled channel with that label.
     pub fn find(&self, label: &[u8; 16]) -> Option<u8>
         ensures { result ≡ found_from 0 (ledger self.now) label.now }
     {
-        self.tasks.find(label)
+        self.loads.first.find(label)
     }
 
     /// Carries out one call.
     pub fn call(&mut self, call: &Call) -> Answer
-        ensures says { reply result ≡ answer_to (G.Load.meaning self.old.guest) (ledger self.old) call.now }
-        ensures channels { ledger self.new ≡ next (G.Load.meaning self.old.guest) (ledger self.old) call.now }
-        ensures guest { self.new.guest ≡ self.old.guest }
+        ensures says { reply result ≡ answer_to (G.Load.meaning (guest self.old)) (ledger self.old) call.now }
+        ensures channels { ledger self.new ≡ next (G.Load.meaning (guest self.old)) (ledger self.old) call.now }
+        ensures guest { guest self.new ≡ guest self.old }
     {
         match *call {
             Call::Admit(channel, entry) => self.admit(channel, entry).map(|()| Done::Granted),

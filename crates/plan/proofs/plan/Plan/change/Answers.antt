@@ -2,12 +2,13 @@
 use Rattle.std.proofs.Common.{Err, ap, ◌∙◌}
 use Rattle.theory.proofs.BesideLaws.{beside_laws}
 use Rattle.loads.specs.Ranged.{table_laws}
+use Rattle.plan.specs.Ledger.{guest}
 use Rattle.plan.proofs.Weigh.{judged, restored}
 use Rattle.plan.proofs.plan.Plan.change.Goals as goal
 
 pub returns-in-Err-clause-says : goal.returns-in-Err-clause-says
 returns-in-Err-clause-says g c =
-    let h = beside_laws _ _ (table_laws c.put.new.self) (g.met.G.Load.lawful c.args.self.now.guest) in
+    let h = beside_laws _ _ (table_laws c.put.new.self) (g.met.G.Load.lawful (guest c.args.self.now)) in
     ap Err c.into.ensures ∙ judged _ _ _ c.requires.channel _ _ _ _ c.put.ensures h c.in-Err.ensures
 
 pub returns-in-Err-clause-channels : goal.returns-in-Err-clause-channels
@@ -15,5 +16,5 @@ returns-in-Err-clause-channels g c = restored _ _ _ c.requires.channel _ _ _ _ _
 
 pub returns-clause-says : goal.returns-clause-says
 returns-clause-says g c =
-    let h = beside_laws _ _ (table_laws c.put.new.self) (g.met.G.Load.lawful c.args.self.now.guest) in
+    let h = beside_laws _ _ (table_laws c.put.new.self) (g.met.G.Load.lawful (guest c.args.self.now)) in
     judged _ _ _ c.requires.channel _ _ _ _ c.put.ensures h c.in_default.ensures

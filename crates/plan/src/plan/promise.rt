@@ -24,8 +24,9 @@ impl<G: Load> Plan<G> {
             → Kept (G.Load.meaning (guest self.old)) before (take result calls.now) (map reply (take result answers.new)) (ledger self.new) }
     {
         let count = calls.len().min(answers.len());
-        for n in 0..count {
-            answers[n] = self.call(&calls[n]);
+        // Written by index: a proof would not know what was written through `answers.iter_mut().zip(calls)`.
+        for (n, call) in calls[..count].iter().enumerate() {
+            answers[n] = self.call(call);
         }
         count
     }

@@ -1,6 +1,7 @@
 -- The verdict of a change is that on the changed plan, and putting back the old content undoes the change.
-use Rattle.std.proofs.Common.{◌≡◌, ℕ, zero, suc, ◌≤◌, false, ltb, [], ◌∷◌, get_or, set, Some, None, Option, Result, refl, ap, ◌∙◌}
+use Rattle.std.proofs.Common.{◌≡◌, ℕ, ◌≤◌, false, ltb, get_or, set, Some, None, Option, Result, ap, ◌∙◌}
 use Rattle.std.proofs.lemmas.Bool.{le-ltb}
+use Rattle.std.proofs.lemmas.List.{set-set, set-get_or}
 use Rattle.theory.specs.declared.verdict.Unfit.{Unfit}
 use Rattle.theory.specs.Meaning.{Meaning, Laws}
 use Rattle.theory.specs.Verdict.{walk, look}
@@ -8,11 +9,6 @@ use Rattle.theory.proofs.Walk.{walk_is_look}
 use Rattle.loads.specs.declared.refusal.Refusal.{Refusal}
 use Rattle.loads.specs.Channels.{Content, Channels, put_at}
 use Rattle.plan.specs.Ledger.{Ledger, plan, by_verdict, weighed}
-
-put_back : (l : Ledger) (c : ℕ) (x : Option Content) → set (set l c x) c (get_or l c None) ≡ l
-put_back [] c x = refl
-put_back (s ∷ l) zero x = refl
-put_back (s ∷ l) (suc c) x = ap (λ (r : Ledger). s ∷ r) (put_back l c x)
 
 -- Within 64 channels, putting is granted, and what is put stands there.
 abbrev Put : Type 0
@@ -29,4 +25,4 @@ module _ (l s : Ledger) (c : ℕ) (b : c ≤ 63) where
   pub restored : (t : Ledger) (x old : Option Content) (p q : Result (Unit {0}) Refusal) → ◌≡◌ {A = Put} (p, s) (put_at l c x) → old ≡ get_or l c None
       → ◌≡◌ {A = Put} (q, t) (put_at s c old) → t ≡ l
   restored t x old p q e o f =
-      put_stands s t c old q b f ∙ ap (λ (r : Ledger). set r c old) (put_stands l s c x p b e) ∙ ap (λ (o : Option Content). set (set l c x) c o) o ∙ put_back l c x
+      put_stands s t c old q b f ∙ ap (λ (r : Ledger). set r c old) (put_stands l s c x p b e) ∙ ap (λ (o : Option Content). set (set l c x) c o) o ∙ set-set l c x _ ∙ set-get_or l c None

@@ -78,11 +78,8 @@ pub data Reply : Type 0 where
   found : Content → Reply
   refused : Refusal → Reply
 
--- The code's answer, and that answer by plain numbers.
-abbrev pub Answer : Type 0
-Answer = Result Done Refusal
-
-abbrev pub reply : Answer → Reply
+-- The code's answer, by plain numbers.
+abbrev pub reply : Result Done Refusal → Reply
 reply (Ok done.Granted) = granted
 reply (Ok done.Retired) = vacated
 reply (Ok (done.Found e)) = found (content e)

@@ -1,7 +1,7 @@
 -- The calls carried out one by one give the answers and the channels of the ledger, and the promise.
 use Rattle.std.proofs.Common.{◌≡◌, refl, ◌∙◌, arith}
 use Rattle.std.proofs.lemmas.List.{get_or-take, length-take}
-use Rattle.plan.specs.Ledger.{ledger, guest}
+use Rattle.plan.specs.Ledger.{guest}
 use Rattle.plan.proofs.Turns.{at_start, turn, kept}
 use Rattle.plan.proofs.plan.Plan.carry_out.Goals as goal
 

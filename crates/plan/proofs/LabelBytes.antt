@@ -1,5 +1,5 @@
 -- Counting the printable bytes at the front, and looking whether zeros follow, gives `good_label`.
-use Rattle.std.proofs.Common.{◌≡◌, ℕ, ◌<◌, ◌+◌, Bool, true, false, cond, ◌&&◌, ◌==◌, List, [], ◌∷◌, drop, refl, ap, ◌∙◌, arith, sym}
+use Rattle.std.proofs.Common.{◌≡◌, ℕ, ◌<◌, ◌+◌, Bool, true, false, cond, ◌&&◌, ◌==◌, List, [], ◌∷◌, drop, refl, ap, ◌∙◌, arith}
 use Rattle.std.specs.List.{list_all, prefix_len}
 use Rattle.plan.specs.Labels.{printable, zeros, padded_text, good_label}
 
@@ -11,14 +11,14 @@ zeros_all : (bs : List ℕ) → zeros bs ≡ all_zero bs
 zeros_all [] = refl
 zeros_all (b ∷ bs) = ap (λ (r : Bool). b == 0 && r) (zeros_all bs)
 
-drop-one : (n b : ℕ) (bs : List ℕ) → drop (1 + n) (b ∷ bs) ≡ drop n bs
-drop-one n b bs = grind arith
+one_more : (n b : ℕ) (bs : List ℕ) → drop n bs ≡ drop (1 + n) (b ∷ bs)
+one_more n b bs = grind arith
 
 padded : (bs : List ℕ) → padded_text bs ≡ all_zero (drop (prefix_len printable bs) bs)
 padded [] = refl
 padded (b ∷ bs) =
     elim (printable b) as (λ p. cond p (padded_text bs) (zeros (b ∷ bs)) ≡ all_zero (drop (cond p (1 + prefix_len printable bs) 0) (b ∷ bs))) [
-      | true ↦ padded bs ∙ ap all_zero (sym (drop-one (prefix_len printable bs) b bs))
+      | true ↦ padded bs ∙ ap all_zero (one_more (prefix_len printable bs) b bs)
       | false ↦ zeros_all (b ∷ bs)
     ]
 
@@ -30,5 +30,5 @@ begun (b ∷ bs) h =
       | false ↦ λ q. absurd (omega arith)
     ]) h
 
-pub label_is : (bs : List ℕ) (n : ℕ) (r : Bool) → n ≡ prefix_len printable bs → 0 < n → r ≡ all_zero (drop n bs) → r ≡ good_label bs
-label_is bs n r e h q = q ∙ ap (λ (m : ℕ). all_zero (drop m bs)) e ∙ sym (padded bs) ∙ sym (begun bs (omega arith))
+pub good_is : (bs : List ℕ) → 0 < prefix_len printable bs → good_label bs ≡ all_zero (drop (prefix_len printable bs) bs)
+good_is bs h = begun bs h ∙ padded bs

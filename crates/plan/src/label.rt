@@ -18,6 +18,7 @@ fn is_padding(bytes: &[u8]) -> bool
 }
 
 /// Whether the bytes are 1 or more of 0x21 to 0x7E, and then zeros.
+#[tactic(auto, using(crate::proofs::LabelBytes::good_is, std::proofs::lemmas::List::take_rest))]
 pub fn is_label(label: &[u8]) -> bool
     ensures { result ≡ good_label label.now }
 {

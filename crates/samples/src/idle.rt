@@ -35,6 +35,7 @@ impl Load for Idle {
         0
     }
 
+    #[tactic(auto, using(theory::proofs::LastMark::last_none))]
     fn last_mark(&self, _t: u64) -> Option<u64> {
         None
     }

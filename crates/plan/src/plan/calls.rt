@@ -39,7 +39,7 @@ impl<G: Load> Plan<G> {
         ensures guest { guest self.new ≡ guest self.old }
     {
         self.loads.first.put(channel, Some(entry))?;
-        if let Err(unfit) = judge(&*self) {
+        if let Err(unfit) = judge(self) {
             self.loads.first.put(channel, old)?;
             return Err(unfit.into());
         }

@@ -1,5 +1,7 @@
--- The numbers of the refusals.
+-- The numbers of the refusals, and the refusals that verdicts stand for.
 use Rattle.std.specs.Prelude.{ℕ, Some, None, Option}
+use Rattle.theory.specs.declared.verdict.Unfit.{Unfit}
+use Rattle.theory.specs.declared.verdict.Unfit.TheVariants as unfit
 use Rattle.loads.specs.declared.refusal.Refusal.{Refusal}
 use Rattle.loads.specs.declared.refusal.Refusal.TheVariants as is
 
@@ -42,3 +44,8 @@ late_pair is.Trailing = None
 late_pair is.BadLabel = None
 late_pair is.OutOfOrder = None
 late_pair is.OutputShort = None
+
+-- The refusal that a verdict other than yes stands for: 10, or 11 with mark and claim.
+abbrev pub refusal_of : Unfit → Refusal
+refusal_of unfit.NotClosed = is.NotClosed
+refusal_of (unfit.Late late) = is.Late late

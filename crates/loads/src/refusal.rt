@@ -1,5 +1,7 @@
 ghost use Rattle.std.specs.Prelude.{◌≡◌};
-ghost use Rattle.loads.specs.Refusals.{number as number_of, late_pair};
+ghost use Rattle.loads.specs.Refusals.{number, late_pair, refusal_of};
+
+use theory::verdict::Unfit;
 
 /// Why a call refuses. Each case has a number, 1 to 17 in this order.
 #[derive(Clone, Copy, PartialEq, Eq, Debug)]
@@ -41,11 +43,35 @@ pub enum Refusal {
 }
 
 impl Refusal {
-    /// The number of the refusal.
-    pub fn number(self) -> u32
-        ensures { result ≡ number_of self }
+    /// The mark and the claim of a late refusal.
+    pub fn late(self) -> Option<(u64, u64)>
+        ensures { result ≡ late_pair self }
     {
         match self {
+            Refusal::Late(late) => Some(late),
+            _ => None,
+        }
+    }
+}
+
+/// The refusal that a verdict other than yes stands for.
+impl From<Unfit> for Refusal {
+    ghost from_gives = { λ u r. r ≡ refusal_of u };
+
+    fn from(unfit: Unfit) -> Refusal {
+        match unfit {
+            Unfit::NotClosed => Refusal::NotClosed,
+            Unfit::Late(late) => Refusal::Late(late),
+        }
+    }
+}
+
+/// The number of a refusal.
+impl From<Refusal> for u32 {
+    ghost from_gives = { λ r n. n ≡ number r };
+
+    fn from(refusal: Refusal) -> u32 {
+        match refusal {
             Refusal::Cost => 1,
             Refusal::Period => 2,
             Refusal::Deadline => 3,
@@ -63,16 +89,6 @@ impl Refusal {
             Refusal::BadLabel => 15,
             Refusal::OutOfOrder => 16,
             Refusal::OutputShort => 17,
-        }
-    }
-
-    /// The mark and the claim of a late refusal.
-    pub fn late(self) -> Option<(u64, u64)>
-        ensures { result ≡ late_pair self }
-    {
-        match self {
-            Refusal::Late(late) => Some(late),
-            _ => None,
         }
     }
 }

@@ -27,7 +27,7 @@ Says m (Err (unfit.Late p)) = Closes m × SomeClaimExceeds m
 module _ (m : Amounts) (l : Rules m) where
   says_open : busy m ≡ None → Says m (look m)
   unfolding Says
-  says_open b = subst (Says m) (look_open m (sym b)) (λ c. let e = c.1 in let z : ◌≡◌ {A = ℕ} 0 1 = cc in omega arith)
+  says_open b = subst (Says m) (look_open m (sym b)) (λ c. let e = c.1 in cc)
 
   says_found : (w : ℕ) → busy m ≡ Some w → (o : Option (ℕ × ℕ)) → look m ≡ found w o → Says m (found w o)
   unfolding Says
@@ -55,19 +55,19 @@ Three m a =
 three : (m : Amounts) (r : Result ℕ Unfit) → Says m r → Three m (told granted (by_verdict r))
 unfolding Says
 three m (Ok w) s = (
-  (λ e. let z : ◌≡◌ {A = ℕ} 0 1 = cc in absurd (omega arith), λ n. absurd (n s.0)),
-  (λ e. let q = e.1 in let z : ◌≡◌ {A = ℕ} 0 1 = cc in absurd (omega arith), λ y. absurd (omega (arith, y.1.1, s.1 y.1.0))),
+  (λ e. cc, λ n. absurd (n s.0)),
+  (λ e. let q = e.1 in cc, λ y. absurd (omega (arith, y.1.1, s.1 y.1.0))),
   (λ e. s, λ y. refl),
 )
 three m (Err unfit.NotClosed) s = (
   (λ e. s, λ y. refl),
-  (λ e. let q = e.1 in let z : ◌≡◌ {A = ℕ} 0 1 = cc in absurd (omega arith), λ y. absurd (s y.0)),
-  (λ e. let z : ◌≡◌ {A = ℕ} 0 1 = cc in absurd (omega arith), λ y. absurd (s y.0)),
+  (λ e. let q = e.1 in cc, λ y. absurd (s y.0)),
+  (λ e. cc, λ y. absurd (s y.0)),
 )
 three m (Err (unfit.Late p)) s = (
-  (λ e. let z : ◌≡◌ {A = ℕ} 0 1 = cc in absurd (omega arith), λ n. absurd (n s.0)),
+  (λ e. cc, λ n. absurd (n s.0)),
   (λ e. s, λ y. (p, refl)),
-  (λ e. let z : ◌≡◌ {A = ℕ} 0 1 = cc in absurd (omega arith), λ y. absurd (omega (arith, s.1.1, y.1 s.1.0))),
+  (λ e. cc, λ y. absurd (omega (arith, s.1.1, y.1 s.1.0))),
 )
 
 -- Where neither label nor channel is refused, the verdict answers.

@@ -24,34 +24,28 @@ use Rattle.plan.specs.Labels.{good_label}
 use Rattle.plan.specs.Ledger.{Ledger, plan, by_verdict, weighed, by_content, admitted, replaced, retired, if_ok, next, after}
 
 -- What is granted: the label is good, and the changed plan passes the verdict.
-cond_ok : (b : Bool) (r : Result (Unit {0}) Refusal) (x : Refusal) (u : Unit {0}) → cond b r (Err x) ≡ Ok u → (b ≡ true) × (r ≡ Ok u)
-cond_ok true r x u e = (refl, e)
-cond_ok false r x u e = let z : ◌≡◌ {A = ℕ} 0 1 = cc in absurd (omega arith)
-
-cond_ok' : (b : Bool) (r : Result (Unit {0}) Refusal) (x : Refusal) (u : Unit {0}) → cond b (Err x) r ≡ Ok u → r ≡ Ok u
-cond_ok' false r x u e = e
-cond_ok' true r x u e = let z : ◌≡◌ {A = ℕ} 0 1 = cc in absurd (omega arith)
-
-empty_ok : (o : Option Content) (r : Result (Unit {0}) Refusal) (x : Refusal) (u : Unit {0}) → by_content o (λ _. Err x) r ≡ Ok u → r ≡ Ok u
-empty_ok None r x u e = e
-empty_ok (Some y) r x u e = let z : ◌≡◌ {A = ℕ} 0 1 = cc in absurd (omega arith)
-
-filled_ok : (o : Option Content) (r : Result (Unit {0}) Refusal) (x : Refusal) (u : Unit {0}) → by_content o (λ _. r) (Err x) ≡ Ok u → r ≡ Ok u
-filled_ok (Some y) r x u e = e
-filled_ok None r x u e = let z : ◌≡◌ {A = ℕ} 0 1 = cc in absurd (omega arith)
-
 abbrev Passes : Meaning → Ledger → ℕ → Content → Unit {0} → Type 0
 Passes g l c k u = (good_label k.label ≡ true) × (weighed g l c k ≡ Ok u)
 
+in_empty : (good above : Bool) (held : Option Content) (r : Result (Unit {0}) Refusal) (u : Unit {0})
+    → cond good (cond above (Err NoChannel) (by_content held (λ _. Err ChannelFilled) r)) (Err BadLabel) ≡ Ok u → (good ≡ true) × (r ≡ Ok u)
+in_empty true false None r u q = (refl, q)
+in_empty true false (Some k) r u q = cc
+in_empty true true held r u q = cc
+in_empty false above held r u q = cc
+
+in_filled : (good above : Bool) (held : Option Content) (r : Result (Unit {0}) Refusal) (u : Unit {0})
+    → cond good (cond above (Err NoChannel) (by_content held (λ _. r) (Err ChannelEmpty))) (Err BadLabel) ≡ Ok u → (good ≡ true) × (r ≡ Ok u)
+in_filled true false (Some k) r u q = (refl, q)
+in_filled true false None r u q = cc
+in_filled true true held r u q = cc
+in_filled false above held r u q = cc
+
 admitted_ok : (g : Meaning) (l : Ledger) (c : ℕ) (k : Content) (u : Unit {0}) → admitted g l c k ≡ Ok u → Passes g l c k u
-admitted_ok g l c k u q =
-    let p = cond_ok (good_label k.label) _ BadLabel u q in
-    (p.0, empty_ok (get_or l c None) (weighed g l c k) ChannelFilled u (cond_ok' (ltb 63 c) _ NoChannel u p.1))
+admitted_ok g l c k u q = in_empty (good_label k.label) (ltb 63 c) (get_or l c None) (weighed g l c k) u q
 
 replaced_ok : (g : Meaning) (l : Ledger) (c : ℕ) (k : Content) (u : Unit {0}) → replaced g l c k ≡ Ok u → Passes g l c k u
-replaced_ok g l c k u q =
-    let p = cond_ok (good_label k.label) _ BadLabel u q in
-    (p.0, filled_ok (get_or l c None) (weighed g l c k) ChannelEmpty u (cond_ok' (ltb 63 c) _ NoChannel u p.1))
+replaced_ok g l c k u q = in_filled (good_label k.label) (ltb 63 c) (get_or l c None) (weighed g l c k) u q
 
 -- What a granted call keeps: a channel filled with what passes, or emptied.
 pub record Keeps (g : Meaning) (P : Ledger → Type 0) : Type 0 where
@@ -91,7 +85,7 @@ plan_laws g h l r = beside_laws (table l) g (tasks_laws (filled l) r) h
 
 verdict_ok : (r : Result ℕ Unfit) (u : Unit {0}) → by_verdict r ≡ Ok u → (w : ℕ) × (r ≡ Ok w)
 verdict_ok (Ok w) u e = (w, refl)
-verdict_ok (Err x) u e = let z : ◌≡◌ {A = ℕ} 0 1 = cc in absurd (omega arith)
+verdict_ok (Err x) u e = cc
 
 no_task_lower : (g : Meaning) → Lower (beside (tasks_meaning []) g).amounts g.amounts
 unfolding beside both tasks_meaning tasks_amounts

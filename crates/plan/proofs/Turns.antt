@@ -1,15 +1,20 @@
 -- Calls carried out one by one: answers and channels are the ledger's, and later places are untouched.
-use Rattle.std.proofs.Common.{◌≡◌, ℕ, ◌+◌, ◌<◌, List, [], ◌∷◌, ◌++◌, map, length, get_or, take, drop, set, sym, refl, ap, ◌∙◌, subst, arith, drop-drop, drop-set-lt}
+use Rattle.std.proofs.Common.{◌≡◌, ℕ, ◌+◌, ◌<◌, List, [], ◌∷◌, ◌++◌, map, length, get_or, take, drop, set, Result, sym, refl, ap, ◌∙◌, subst, arith, drop-drop, drop-set-lt}
 use mathlib.Core.List.{map-append}
 use Rattle.std.proofs.lemmas.List.{take_more, take_more_set}
 use Rattle.theory.specs.Meaning.{Meaning, Laws}
 use Rattle.theory.specs.Statements.{NeverLate}
 use Rattle.plan.specs.declared.call.Call.{Call}
-use Rattle.plan.specs.declared.call.Answer.{Answer}
+use Rattle.loads.specs.declared.refusal.Refusal.{Refusal}
 use Rattle.loads.specs.Channels.{blank}
+use Rattle.plan.specs.declared.call.Done.{Done}
 use Rattle.plan.specs.Ledger.{Ledger, plan, Reply, reply, answer_to, next, after, answers_to}
 use Rattle.plan.specs.Promise.{Kept}
 use Rattle.plan.proofs.Keep.{promise}
+
+-- What the code answers to a call.
+abbrev Answer : Type 0
+Answer = Result Done Refusal
 
 pub after_join : (g : Meaning) (l : Ledger) (xs ys : List Call) → after g l (xs ++ ys) ≡ after g (after g l xs) ys
 after_join g l [] ys = refl
@@ -56,26 +61,6 @@ module _ (g : Meaning) (start : Ledger) (cs : List Call) (old rs : List Answer) 
   pub turn : SoFar g start cs old (n + 1) l' (set rs n a)
   turn = record { stands = turn_stands; answered = turn_answered; untouched = turn_untouched }
 
-pub kept : (g : Meaning) → Laws g → (start : Ledger) (cs : List Call) (old : List Answer) (n : ℕ) (l : Ledger) (rs : List Answer) → SoFar g start cs old n l rs
-    → (before : List Call) → start ≡ after g blank before → Kept g before (take n cs) (map reply (take n rs)) l
-kept g h start cs old n l rs so before e =
-    let s : l ≡ after g blank (before ++ take n cs) = so.stands ∙ ap (λ x. after g x (take n cs)) e ∙ sym (after_join g blank before (take n cs)) in
-    record {
-      promise = promise g h;
-      answered = so.answered ∙ ap (λ x. answers_to g x (take n cs)) e;
-      stands = s;
-      never_late = λ a. subst (λ (x : Ledger). NeverLate (plan g x)) (sym s) ((promise g h).never_late a (before ++ take n cs));
-    }
-
--- A plan just made: no call yet.
-pub kept_none : (g : Meaning) → Laws g → (l : Ledger) → l ≡ blank → Kept g [] [] [] l
-kept_none g h l e = record {
-  promise = promise g h;
-  answered = refl;
-  stands = e;
-  never_late = λ a. subst (λ (x : Ledger). NeverLate (plan g x)) (sym e) ((promise g h).never_late a []);
-}
-
 -- After any calls, with the answers that the ledger gives.
 pub kept_more : (g : Meaning) → Laws g → (before ks : List Call) (l : Ledger) → l ≡ after g (after g blank before) ks → Kept g before ks (answers_to g (after g blank before) ks) l
 kept_more g h before ks l e =
@@ -86,3 +71,11 @@ kept_more g h before ks l e =
       stands = s;
       never_late = λ a. subst (λ (x : Ledger). NeverLate (plan g x)) (sym s) ((promise g h).never_late a (before ++ ks));
     }
+
+-- After n of the calls, from where earlier calls have led.
+pub kept : (g : Meaning) → Laws g → (start : Ledger) (cs : List Call) (old : List Answer) (n : ℕ) (l : Ledger) (rs : List Answer) → SoFar g start cs old n l rs
+    → (before : List Call) → start ≡ after g blank before → Kept g before (take n cs) (map reply (take n rs)) l
+kept g h start cs old n l rs so before e =
+    let a : map reply (take n rs) ≡ answers_to g (after g blank before) (take n cs) = so.answered ∙ ap (λ x. answers_to g x (take n cs)) e in
+    let s : l ≡ after g (after g blank before) (take n cs) = so.stands ∙ ap (λ x. after g x (take n cs)) e in
+    subst (λ (xs : List Reply). Kept g before (take n cs) xs l) (sym a) (kept_more g h before (take n cs) l s)

@@ -2,19 +2,19 @@
 -- and the calls' arguments alone.
 use Rattle.std.specs.Prelude.{ℕ, cond, List, [], ◌∷◌, Some, None, Ok, Err, Option, Result, nat_lt, slice_index_or, slice_set}
 use Rattle.theory.specs.declared.verdict.Unfit.{Unfit}
-use Rattle.theory.specs.declared.verdict.Unfit.TheVariants as unfit
 use Rattle.theory.specs.Meaning.{Meaning}
 use Rattle.theory.specs.Beside.{beside}
 use Rattle.theory.specs.Verdict.{look}
 use Rattle.loads.specs.declared.refusal.Refusal.{Refusal}
-use Rattle.loads.specs.declared.refusal.Refusal.TheVariants.{BadLabel, NoChannel, ChannelFilled, ChannelEmpty, NotClosed, Late}
+use Rattle.loads.specs.declared.refusal.Refusal.TheVariants.{BadLabel, NoChannel, ChannelFilled, ChannelEmpty}
+pub use Rattle.loads.specs.Refusals.{refusal_of}
 use Rattle.loads.specs.declared.entry.Entry.{Entry}
 use Rattle.loads.specs.Channels.{Content, Channels, table, channels, content}
 use Rattle.plan.specs.declared.plan.Plan.{Plan}
 use Rattle.plan.specs.declared.call.Call.{Call}
 use Rattle.plan.specs.declared.call.Call.TheVariants.{Admit, Replace, Retire, Read}
-use Rattle.plan.specs.declared.call.Answer.{Answer}
-use Rattle.plan.specs.declared.call.Answer.TheVariants as answer
+use Rattle.plan.specs.declared.call.Done.{Done}
+use Rattle.plan.specs.declared.call.Done.TheVariants as done
 use Rattle.plan.specs.Labels.{good_label}
 
 -- 64 channels, each empty or with label and task.
@@ -23,16 +23,15 @@ Ledger = Channels
 
 -- What a plan's own channels hold.
 abbrev pub ledger : {G : Type 0} → Plan G → Ledger
-ledger p = channels p.tasks
+ledger p = channels p.loads.first
+
+-- The load beside them.
+abbrev pub guest : {G : Type 0} → Plan G → G
+guest p = p.loads.second
 
 -- What a plan means: the ledger's tasks beside the guest.
 abbrev pub plan : Meaning → Ledger → Meaning
 plan g l = beside (table l) g
-
--- The refusal that a verdict other than yes stands for: 10, or 11 with mark and claim.
-abbrev pub refusal_of : Unfit → Refusal
-refusal_of unfit.NotClosed = NotClosed
-refusal_of (unfit.Late late) = Late late
 
 -- Granted by a yes, and else refused.
 abbrev pub by_verdict : Result ℕ Unfit → Result (Unit {0}) Refusal
@@ -80,11 +79,11 @@ pub data Reply : Type 0 where
   refused : Refusal → Reply
 
 -- The code's answer, by plain numbers.
-abbrev pub reply : Answer → Reply
-reply answer.Granted = granted
-reply answer.Retired = vacated
-reply (answer.Found e) = found (content e)
-reply (answer.Refused r) = refused r
+abbrev pub reply : Result Done Refusal → Reply
+reply (Ok done.Granted) = granted
+reply (Ok done.Retired) = vacated
+reply (Ok (done.Found e)) = found (content e)
+reply (Err r) = refused r
 
 -- The reply to a call that gives nothing but leave: `good` where it is granted.
 abbrev pub told : Reply → Result (Unit {0}) Refusal → Reply

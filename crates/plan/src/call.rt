@@ -14,15 +14,16 @@ pub enum Call {
     Read(u8),
 }
 
-/// What a call answers.
+/// What a call that is not refused has done.
 #[derive(Clone, Copy)]
-pub enum Answer {
+pub enum Done {
     /// The task stands in its channel now.
     Granted,
     /// The channel is empty now.
     Retired,
     /// What the channel holds.
     Found(Entry),
-    /// Nothing has changed.
-    Refused(Refusal),
 }
+
+/// What a call answers; a refused call has changed nothing.
+pub type Answer = Result<Done, Refusal>;

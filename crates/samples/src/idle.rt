@@ -6,16 +6,14 @@ use theory::load::Load;
 
 /// A load with no work: a guest for a plan that is to have nothing but its own tasks.
 #[derive(Clone, Copy, Drop)]
-pub struct Idle {
-    pad: u8,
-}
+pub struct Idle;
 
 impl Idle {
     /// The load with no work.
     pub fn new() -> Idle
-        ensures { result ≡ (record { pad = 0 }) }
+        ensures { result ≡ (record {}) }
     {
-        Idle { pad: 0 }
+        Idle
     }
 }
 
@@ -37,6 +35,7 @@ impl Load for Idle {
         0
     }
 
+    #[tactic(auto, using(theory::proofs::LastMark::last_none))]
     fn last_mark(&self, _t: u64) -> Option<u64> {
         None
     }

@@ -5,22 +5,22 @@ use loads::entry::Entry;
 use loads::refusal::Refusal;
 use loads::table::{Table, TaskTable};
 use loads::task::Task;
-use plan::call::{Answer, Call};
+use plan::call::{Answer, Call, Done};
 use plan::plan::Plan;
 use std::process::Abort;
 use std::test::Fail;
 use theory::load::Load;
-use theory::verdict::Unfit;
 
 /// Cost, period, deadline, jitter and section of a task.
 type Numbers = (u32, u32, u32, u32, u32);
 
 /// The label `a`.
-const LABEL: [u8; 16] = [0x61, 0, 0, 0, 0, 0, 0, 0, 0, 0, 0, 0, 0, 0, 0, 0];
+const LABEL: [u8; 16] = [b'a', 0, 0, 0, 0, 0, 0, 0, 0, 0, 0, 0, 0, 0, 0, 0];
 
 /// The letters `a` and `b` with a zero between them: no label.
-const GAP: [u8; 16] = [0x61, 0, 0x62, 0, 0, 0, 0, 0, 0, 0, 0, 0, 0, 0, 0, 0];
+const GAP: [u8; 16] = [b'a', 0, b'b', 0, 0, 0, 0, 0, 0, 0, 0, 0, 0, 0, 0, 0];
 
+/// A label and a task with these numbers.
 fn entry(label: [u8; 16], numbers: Numbers) -> Result<Entry, Refusal> {
     let (cost, period, deadline, jitter, section) = numbers;
     let task = Task::new(cost, period, deadline, jitter, section)?;
@@ -30,37 +30,25 @@ fn entry(label: [u8; 16], numbers: Numbers) -> Result<Entry, Refusal> {
 /// A table with these tasks, from channel 0 on.
 fn table_of(tasks: &[Numbers]) -> Result<TaskTable, Refusal> {
     let mut table = Table::new();
-    let mut channel: u8 = 0;
-    for numbers in tasks {
+    for (channel, numbers) in (0..=u8::MAX).zip(tasks) {
         table.put(channel, Some(entry(LABEL, *numbers)?))?;
-        channel = channel.saturating_add(1);
     }
     Ok(table)
 }
 
-/// A verdict, with the refusal that a plan gives for it.
-fn seen(verdict: Result<u64, Unfit>) -> Result<u64, Refusal> {
-    match verdict {
-        Ok(busy) => Ok(busy),
-        Err(Unfit::NotClosed) => Err(Refusal::NotClosed),
-        Err(Unfit::Late(late)) => Err(Refusal::Late(late)),
-    }
-}
-
 /// Checks that judge and audit both give this verdict.
 fn both_say<L: Load>(rt: &impl Abort, load: &L, verdict: Result<u64, Refusal>) {
-    assert_eq!(rt; seen(judge(load)), verdict);
-    assert_eq!(rt; seen(audit(load)), verdict, "by audit");
+    assert_eq!(rt; judge(load).map_err(Refusal::from), verdict);
+    assert_eq!(rt; audit(load).map_err(Refusal::from), verdict, "by audit");
 }
 
 /// What an answer says, in a word, or the refusal.
 fn said(answer: Answer) -> Result<&'static str, Refusal> {
-    match answer {
-        Answer::Granted => Ok("granted"),
-        Answer::Retired => Ok("retired"),
-        Answer::Found(_) => Ok("found"),
-        Answer::Refused(refusal) => Err(refusal),
-    }
+    answer.map(|done| match done {
+        Done::Granted => "granted",
+        Done::Retired => "retired",
+        Done::Found(_) => "found",
+    })
 }
 
 #[test]
@@ -107,9 +95,12 @@ fn six_tasks(rt: HostRuntime) -> Result<(), Fail> {
 fn longest(rt: HostRuntime) -> Result<(), Fail> {
     let half = (390_625, 781_250, 781_250, 0, 0);
     let closed = table_of(&[half, (128, 256, 256, 0, 0)])?;
-    assert_eq!(rt; seen(judge(&closed)), Ok(100_000_000));
+    assert_eq!(rt; judge(&closed).map_err(Refusal::from), Ok(100_000_000));
     let open = table_of(&[half, (129, 258, 258, 0, 0)])?;
-    assert_eq!(rt; seen(judge(&open)), Err(Refusal::NotClosed));
+    assert_eq!(rt;
+        judge(&open).map_err(Refusal::from),
+        Err(Refusal::NotClosed)
+    );
     Ok(())
 }
 
@@ -152,11 +143,9 @@ fn calls(rt: HostRuntime) -> Result<(), Fail> {
         Ok("retired"),
     ];
     let mut plan = Plan::make(Idle::new());
-    let mut answers = [Answer::Retired; 14];
+    let mut answers = [Ok(Done::Retired); 14];
     assert_eq!(rt; plan.carry_out(&calls, &mut answers), 13);
-    for i in 0..14 {
-        assert_eq!(rt; said(answers[i]), expected[i], "{}", i);
-    }
+    assert_eq!(rt; answers.map(said), expected);
     assert_eq!(rt; plan.find(&LABEL), Some(1));
     assert_eq!(rt; plan.find(&GAP), None);
     assert_eq!(rt; plan.read(1)?.task.section(), 3);

@@ -1,59 +1,31 @@
 ghost use Rattle.std.specs.Prelude.{◌≡◌, ◌≤◌, [], Some, None, slice_index_or, slice_set};
 ghost use Rattle.loads.specs.Channels.{blank, content, held_content, found_from};
-ghost use Rattle.plan.specs.Ledger.{ledger, refusal_of, weighed, if_ok, admitted, replaced, retired, reading, read_entry, reply, told as told_reply, shown as shown_reply, answer_to, next};
+ghost use Rattle.plan.specs.Ledger.{ledger, guest, weighed, if_ok, admitted, replaced, retired, reading, read_entry, reply, answer_to, next};
 ghost use Rattle.plan.specs.Promise.{Kept};
 ghost use Rattle.plan.specs.declared.call.Call.TheVariants.{Admit as admit_call, Replace as replace_call, Retire as retire_call};
 
 use super::Plan;
-use crate::call::{Answer, Call};
+use crate::beside::Beside;
+use crate::call::{Answer, Call, Done};
 use crate::label::is_label;
 use judge::walk::judge;
 use loads::entry::Entry;
 use loads::refusal::Refusal;
 use loads::table::Table;
 use theory::load::Load;
-use theory::verdict::Unfit;
-
-/// The refusal that a verdict gives.
-pub fn refusal(unfit: Unfit) -> Refusal
-    ensures { result ≡ refusal_of unfit }
-{
-    match unfit {
-        Unfit::NotClosed => Refusal::NotClosed,
-        Unfit::Late(late) => Refusal::Late(late),
-    }
-}
-
-/// The answer to a call that gives nothing but leave.
-fn told(good: Answer, r: Result<(), Refusal>) -> Answer
-    ensures { reply result ≡ told_reply (reply good) r }
-{
-    match r {
-        Ok(_) => good,
-        Err(e) => Answer::Refused(e),
-    }
-}
-
-/// The answer to a reading.
-fn shown(r: Result<Entry, Refusal>) -> Answer
-    ensures { reply result ≡ shown_reply (read_entry r) }
-{
-    match r {
-        Ok(entry) => Answer::Found(entry),
-        Err(e) => Answer::Refused(e),
-    }
-}
 
 impl<G: Load> Plan<G> {
     /// A plan over any guest, accepted or not, with no tasks.
-    pub fn make(guest: G) -> Plan<G>
-        ensures guest { result.guest ≡ guest }
+    pub fn make(load: G) -> Plan<G>
+        ensures guest { guest result ≡ load }
         ensures channels { ledger result ≡ blank }
-        ensures kept { Kept (G.Load.meaning guest) [] [] [] (ledger result) }
+        ensures kept { Kept (G.Load.meaning load) [] [] [] (ledger result) }
     {
         Plan {
-            tasks: Table::new(),
-            guest,
+            loads: Beside {
+                first: Table::new(),
+                second: load,
+            },
         }
     }
 
@@ -62,91 +34,81 @@ impl<G: Load> Plan<G> {
     fn change(&mut self, channel: u8, entry: Entry, old: Option<Entry>) -> Result<(), Refusal>
         requires channel { channel ≤ 63 }
         requires old { held_content old ≡ slice_index_or (ledger self.old) channel None }
-        ensures says { result ≡ weighed (G.Load.meaning self.old.guest) (ledger self.old) channel (content entry) }
+        ensures says { result ≡ weighed (G.Load.meaning (guest self.old)) (ledger self.old) channel (content entry) }
         ensures channels { ledger self.new ≡ if_ok result (slice_set (ledger self.old) channel (Some (content entry))) (ledger self.old) }
-        ensures guest { self.new.guest ≡ self.old.guest }
+        ensures guest { guest self.new ≡ guest self.old }
     {
-        self.tasks.put(channel, Some(entry))?;
-        match judge(&*self) {
-            Ok(_) => Ok(()),
-            Err(unfit) => {
-                self.tasks.put(channel, old)?;
-                Err(refusal(unfit))
-            }
+        self.loads.first.put(channel, Some(entry))?;
+        if let Err(unfit) = judge(self) {
+            self.loads.first.put(channel, old)?;
+            return Err(unfit.into());
         }
+        Ok(())
     }
 
     /// Puts label and task into an empty channel.
     pub fn admit(&mut self, channel: u8, entry: Entry) -> Result<(), Refusal>
-        ensures says { result ≡ admitted (G.Load.meaning self.old.guest) (ledger self.old) channel (content entry) }
-        ensures channels { ledger self.new ≡ next (G.Load.meaning self.old.guest) (ledger self.old) (admit_call channel entry) }
-        ensures guest { self.new.guest ≡ self.old.guest }
+        ensures says { result ≡ admitted (G.Load.meaning (guest self.old)) (ledger self.old) channel (content entry) }
+        ensures channels { ledger self.new ≡ next (G.Load.meaning (guest self.old)) (ledger self.old) (admit_call channel entry) }
+        ensures guest { guest self.new ≡ guest self.old }
     {
         if !is_label(&entry.label) {
             return Err(Refusal::BadLabel);
         }
-        let held = self.tasks.get(channel)?;
-        match held {
-            Some(_) => Err(Refusal::ChannelFilled),
-            None => self.change(channel, entry, None),
+        if self.loads.first.get(channel)?.is_some() {
+            return Err(Refusal::ChannelFilled);
         }
+        self.change(channel, entry, None)
     }
 
     /// Puts label and task into a filled channel, in place of what it holds.
     pub fn replace(&mut self, channel: u8, entry: Entry) -> Result<(), Refusal>
-        ensures says { result ≡ replaced (G.Load.meaning self.old.guest) (ledger self.old) channel (content entry) }
-        ensures channels { ledger self.new ≡ next (G.Load.meaning self.old.guest) (ledger self.old) (replace_call channel entry) }
-        ensures guest { self.new.guest ≡ self.old.guest }
+        ensures says { result ≡ replaced (G.Load.meaning (guest self.old)) (ledger self.old) channel (content entry) }
+        ensures channels { ledger self.new ≡ next (G.Load.meaning (guest self.old)) (ledger self.old) (replace_call channel entry) }
+        ensures guest { guest self.new ≡ guest self.old }
     {
         if !is_label(&entry.label) {
             return Err(Refusal::BadLabel);
         }
-        match self.tasks.get(channel)? {
-            Some(old) => self.change(channel, entry, Some(old)),
-            None => Err(Refusal::ChannelEmpty),
-        }
+        let old = self.read(channel)?;
+        self.change(channel, entry, Some(old))
     }
 
     /// Empties a filled channel.
     pub fn retire(&mut self, channel: u8) -> Result<(), Refusal>
         ensures says { result ≡ retired (ledger self.old) channel }
-        ensures channels { ledger self.new ≡ next (G.Load.meaning self.old.guest) (ledger self.old) (retire_call channel) }
-        ensures guest { self.new.guest ≡ self.old.guest }
+        ensures channels { ledger self.new ≡ next (G.Load.meaning (guest self.old)) (ledger self.old) (retire_call channel) }
+        ensures guest { guest self.new ≡ guest self.old }
     {
-        match self.tasks.get(channel)? {
-            Some(_) => self.tasks.put(channel, None),
-            None => Err(Refusal::ChannelEmpty),
-        }
+        self.read(channel)?;
+        self.loads.first.put(channel, None)
     }
 
     /// Label and task of a filled channel.
     pub fn read(&self, channel: u8) -> Result<Entry, Refusal>
         ensures { read_entry result ≡ reading (ledger self.now) channel }
     {
-        match self.tasks.get(channel)? {
-            Some(entry) => Ok(entry),
-            None => Err(Refusal::ChannelEmpty),
-        }
+        self.loads.first.get(channel)?.ok_or(Refusal::ChannelEmpty)
     }
 
     /// The lowest filled channel with that label.
     pub fn find(&self, label: &[u8; 16]) -> Option<u8>
         ensures { result ≡ found_from 0 (ledger self.now) label.now }
     {
-        self.tasks.find(label)
+        self.loads.first.find(label)
     }
 
     /// Carries out one call.
     pub fn call(&mut self, call: &Call) -> Answer
-        ensures says { reply result ≡ answer_to (G.Load.meaning self.old.guest) (ledger self.old) call.now }
-        ensures channels { ledger self.new ≡ next (G.Load.meaning self.old.guest) (ledger self.old) call.now }
-        ensures guest { self.new.guest ≡ self.old.guest }
+        ensures says { reply result ≡ answer_to (G.Load.meaning (guest self.old)) (ledger self.old) call.now }
+        ensures channels { ledger self.new ≡ next (G.Load.meaning (guest self.old)) (ledger self.old) call.now }
+        ensures guest { guest self.new ≡ guest self.old }
     {
         match *call {
-            Call::Admit(channel, entry) => told(Answer::Granted, self.admit(channel, entry)),
-            Call::Replace(channel, entry) => told(Answer::Granted, self.replace(channel, entry)),
-            Call::Retire(channel) => told(Answer::Retired, self.retire(channel)),
-            Call::Read(channel) => shown(self.read(channel)),
+            Call::Admit(channel, entry) => self.admit(channel, entry).map(|()| Done::Granted),
+            Call::Replace(channel, entry) => self.replace(channel, entry).map(|()| Done::Granted),
+            Call::Retire(channel) => self.retire(channel).map(|()| Done::Retired),
+            Call::Read(channel) => self.read(channel).map(Done::Found),
         }
     }
 }

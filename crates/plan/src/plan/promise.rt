@@ -1,7 +1,7 @@
 ghost use Rattle.std.specs.Prelude.{◌≡◌, min, List, map, length, take, drop};
 ghost use Rattle.loads.specs.Channels.{blank};
 ghost use Rattle.plan.specs.declared.call.Call.{Call as a_call};
-ghost use Rattle.plan.specs.Ledger.{ledger, reply, after, answers_to};
+ghost use Rattle.plan.specs.Ledger.{ledger, guest, reply, after, answers_to};
 ghost use Rattle.plan.specs.Promise.{Kept};
 
 use super::Plan;
@@ -16,16 +16,17 @@ impl<G: Load> Plan<G> {
     /// and granted say is exact, and over an accepted guest no permitted job is ever late (`Kept`).
     pub fn carry_out(&mut self, calls: &[Call], answers: &mut [Answer]) -> usize
         ensures count { result ≡ min (length calls.now) (length answers.old) }
-        ensures guest { self.new.guest ≡ self.old.guest }
-        ensures says { map reply (take result answers.new) ≡ answers_to (G.Load.meaning self.old.guest) (ledger self.old) (take result calls.now) }
-        ensures channels { ledger self.new ≡ after (G.Load.meaning self.old.guest) (ledger self.old) (take result calls.now) }
+        ensures guest { guest self.new ≡ guest self.old }
+        ensures says { map reply (take result answers.new) ≡ answers_to (G.Load.meaning (guest self.old)) (ledger self.old) (take result calls.now) }
+        ensures channels { ledger self.new ≡ after (G.Load.meaning (guest self.old)) (ledger self.old) (take result calls.now) }
         ensures untouched { drop result answers.new ≡ drop result answers.old }
-        ensures kept { (before : List a_call) → ledger self.old ≡ after (G.Load.meaning self.old.guest) blank before
-            → Kept (G.Load.meaning self.old.guest) before (take result calls.now) (map reply (take result answers.new)) (ledger self.new) }
+        ensures kept { (before : List a_call) → ledger self.old ≡ after (G.Load.meaning (guest self.old)) blank before
+            → Kept (G.Load.meaning (guest self.old)) before (take result calls.now) (map reply (take result answers.new)) (ledger self.new) }
     {
         let count = calls.len().min(answers.len());
-        for n in 0..count {
-            answers[n] = self.call(&calls[n]);
+        // Written by index: a proof would not know what was written through `answers.iter_mut().zip(calls)`.
+        for (n, call) in calls[..count].iter().enumerate() {
+            answers[n] = self.call(call);
         }
         count
     }

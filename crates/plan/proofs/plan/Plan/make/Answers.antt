@@ -1,10 +1,6 @@
-use Rattle.std.proofs.Common.{refl}
-use Rattle.plan.proofs.Turns.{kept_none}
+use Rattle.std.proofs.Common.{[]}
+use Rattle.plan.proofs.Turns.{kept_more}
 use Rattle.plan.proofs.plan.Plan.make.Goals as goal
 
-pub returns : goal.returns
-returns g c = record {
-  guest = refl;
-  channels = c.new.ensures;
-  kept = kept_none (g.G.Load.meaning c.args.guest) (g.met.G.Load.lawful c.args.guest) _ c.new.ensures;
-}
+pub returns-clause-kept : goal.returns-clause-kept
+returns-clause-kept g c = kept_more (g.G.Load.meaning c.args.load) (g.met.G.Load.lawful c.args.load) [] [] _ c.new.ensures

@@ -10,4 +10,5 @@ pub mod refusal;
 pub mod table;
 pub mod task;
 pub mod theorems;
+mod ticks;
 pub mod train;

@@ -1,4 +1,3 @@
-pub mod Pushes
 pub mod Sizes
 pub mod Slots
 pub mod Packing
@@ -8,4 +7,3 @@ pub mod ChannelViews
 pub mod TrainWithin
 pub mod TrainLoops
 pub mod TrainMarks
-pub mod TrainPushes

@@ -3,6 +3,7 @@ pub mod Params
 pub mod Refusals
 pub mod Making
 pub mod Tasks
+pub mod FixedVecs
 pub mod Lists
 pub mod Channels
 pub mod Slots

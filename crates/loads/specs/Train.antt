@@ -5,6 +5,7 @@ use Rattle.theory.specs.Meaning.{Amounts, Meaning}
 use Rattle.loads.specs.declared.refusal.Refusal.{Refusal}
 use Rattle.loads.specs.declared.refusal.Refusal.TheVariants.{TrainFull}
 use Rattle.loads.specs.declared.train.RampTrain.{RampTrain}
+use Rattle.loads.specs.FixedVecs.{items_of, added}
 use Rattle.loads.specs.Params.{FrameParams}
 use Rattle.loads.specs.Making.{frame_params}
 
@@ -99,14 +100,14 @@ InTurn (f ∷ fs) (j ∷ js) = OfFrame f j × FromTick (j.release + f.gap) js ×
 abbrev pub train_meaning : List FrameParams → Meaning
 train_meaning fs = record { amounts = train_amounts fs; Permits = λ js. (k : ℕ) × InTurn (circle_from k fs) js }
 
--- The frames that a train holds, in order: those of its first `count` places.
+-- The frames that a train holds, in order.
 abbrev pub frames_of : RampTrain → List FrameParams
-frames_of r = map frame_params (take r.count r.frames)
+frames_of r = map frame_params (items_of r.frames)
 
 -- One more frame at the end of a train that holds `fs`: the answer, and the frames that it then holds. A train that
 -- holds sixteen refuses and stays as it was.
 abbrev pub pushed : List FrameParams → FrameParams → Result (Unit {0}) Refusal × List FrameParams
-pushed fs f = cond (nat_lt (length fs) 16) (Ok tt, fs ++ (f ∷ [])) (Err TrainFull, fs)
+pushed fs f = added 16 TrainFull fs f
 
 -- A train that holds `old` filled with `fs`: the answer, and the frames that it then holds. They replace what it held,
 -- unless they are more than sixteen.

@@ -3,6 +3,7 @@ use Rattle.std.specs.Prelude.{ℕ, zero, suc, List, [], ◌∷◌, ◌++◌, map
 use Rattle.theory.specs.Jobs.{All}
 use Rattle.loads.specs.declared.frame.Frame.{Frame}
 use Rattle.loads.specs.declared.train.RampTrain.{RampTrain}
+use Rattle.loads.specs.FixedVecs.{items_of}
 use Rattle.loads.specs.Params.{FrameParams, FrameRanges}
 use Rattle.loads.specs.Making.{frame_params}
 use Rattle.loads.specs.Train.{circle_from, frames_of}
@@ -46,4 +47,4 @@ all_ranged (f ∷ fs) = (frame_ranged f, all_ranged fs)
 
 -- So do the frames that a train holds.
 pub frames_ranged : (r : RampTrain) → All FrameRanges (frames_of r)
-frames_ranged r = all_ranged (take r.count r.frames)
+frames_ranged r = all_ranged (items_of r.frames)

@@ -5,5 +5,6 @@ pub mod Fewer
 pub mod Labels
 pub mod ChannelViews
 pub mod TrainWithin
+pub mod TrainSums
 pub mod TrainLoops
 pub mod TrainMarks

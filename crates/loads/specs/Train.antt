@@ -15,7 +15,7 @@ cycle [] = 0
 cycle (f ∷ fs) = f.gap + cycle fs
 
 -- The circle of frames begun at place k: the frames from place k to the last, and then those before place k.
-unfoldable pub circle_from : ℕ → List FrameParams → List FrameParams
+unfoldable pub circle_from : {A : Type 0} → ℕ → List A → List A
 circle_from k fs = drop k fs ++ take k fs
 
 -- How many of the ticks a, a + c, a + 2 * c, .. are at most t.

@@ -1,11 +1,12 @@
 ghost use Rattle.std.specs.Prelude.{◌≡◌, ◌+◌, ◌-◌, ◌%◌, ◌<◌, ◌≤◌, map, length};
 ghost use Rattle.theory.specs.Meaning.{last_mark};
 ghost use Rattle.loads.specs.Making.{frame_params};
-ghost use Rattle.loads.specs.Train.{cycle, circle_from, hits, mark_from, rests_of, train_amounts};
+ghost use Rattle.loads.specs.Train.{cycle, circle_from, hits, mark_from, rests_of, frames_of, train_amounts};
 
-use super::sums::cycle_of;
+use super::RampTrain;
 use crate::frame::Frame;
 use crate::marks::later;
+use crate::ticks::Ticks;
 
 /// The last deadline below t of a frame released at `off`, and again after each round. `rest` is what is left of the
 /// last round where the frame is released at 0; a release at `off` is `off` ticks later in the round.
@@ -69,15 +70,17 @@ fn last_over(frames: &[Frame], rests: &[u64], round: u64, t: u64) -> Option<u64>
     last
 }
 
-/// The last mark below t.
-pub(crate) fn last_below(frames: &[Frame], t: u64) -> Option<u64>
-    requires { length frames.now ≤ 16 }
-    ensures { result ≡ last_mark (train_amounts (map frame_params frames.now)).mark t }
-{
-    let round = cycle_of(frames);
-    let mut rests = [0; 16];
-    for (i, f) in frames.iter().enumerate() {
-        rests[i] = t.saturating_sub(1 + u64::from(f.deadline())) % round;
+impl RampTrain {
+    /// The last mark below t.
+    pub(crate) fn last_below(&self, t: Ticks) -> Option<u64>
+        ensures { result ≡ last_mark (train_amounts (frames_of self.now)).mark t }
+    {
+        let frames = self.frames();
+        let round = self.round();
+        let mut rests = [0; 16];
+        for (i, f) in frames.iter().enumerate() {
+            rests[i] = t.count().saturating_sub(1 + u64::from(f.deadline())) % round;
+        }
+        last_over(frames, &rests[..frames.len()], round, t.count())
     }
-    last_over(frames, &rests[..frames.len()], round, t)
 }

@@ -1,0 +1,102 @@
+-- The sums over the frames of a train.
+use Rattle.std.proofs.Common.{◌≡◌, ℕ, zero, suc, ◌+◌, ◌*◌, ◌<◌, ◌≤◌, max, cond, ltb, List, [], ◌∷◌, ◌++◌, map, length, get_or, take, drop, set, sym, refl, ap, ap₂, ◌∙◌, arith, add-one, zero-add, add-zero, add_assoc, length-append, length-drop, length-take, take_all}
+use mathlib.Core.List.{map-append}
+use lib.ListN.{length-map}
+use Rattle.std.specs.List.{fold, sum_by, range_with_len}
+use Rattle.std.proofs.lemmas.List.{take-map, drop-map, take_more_set, map_more}
+use Rattle.std.proofs.lemmas.List.FromFn.{map-range_with_len_more}
+use Rattle.std.proofs.lemmas.List.Recursion.{is_sum_by}
+use Rattle.std.proofs.lemmas.List.Sums.{sum_by-cons, fold_push}
+use Rattle.loads.specs.declared.frame.Frame.{Frame}
+use Rattle.loads.specs.declared.train.within.Limited.{Limited}
+use Rattle.loads.specs.Params.{FrameParams}
+use Rattle.loads.specs.Making.{frame_params}
+use Rattle.loads.specs.Train.{cycle, circle_from, largest_of, sum_along, within, train_amounts}
+use Rattle.loads.specs.TrainCircle.{largest_le, largest_same}
+use Rattle.loads.specs.TrainLimits.{gaps, cost_within}
+use Rattle.loads.specs.TrainTally.{cond_le}
+use Rattle.loads.proofs.TrainWithin.{sum_still}
+
+pub cycle_sum : (fs : List Frame) → cycle (map frame_params fs) ≡ sum_by (λ (f : Frame). f.gap) fs
+unfolding cycle
+cycle_sum = is_sum_by (λ fs. cycle (map frame_params fs)) (λ f. f.gap) refl (λ _ _. refl)
+
+pub cycle_positive : (fs : List Frame) → 0 < length fs → 0 < cycle (map frame_params fs)
+unfolding cycle
+cycle_positive [] h = absurd (omega arith)
+cycle_positive (f ∷ fs) h = omega (arith, f.gap_range.0)
+
+pub gaps_most : (fs : List Frame) → sum_by (λ (f : Frame). f.gap) fs ≤ 10000000 * length fs
+gaps_most [] = omega arith
+gaps_most (f ∷ fs) = omega (arith, sum_by-cons (λ (f : Frame). f.gap) f fs, gaps_most fs, f.gap_range.1)
+
+pub cost_append : (off : ℕ) (xs ys : List Limited) → cost_within off (xs ++ ys) ≡ cost_within off xs + cost_within (off + gaps xs) ys
+cost_append off [] ys = rw add-zero (omega arith)
+cost_append off (x ∷ xs) ys = rw (← add_assoc off x.frame.gap (gaps xs)) (omega (arith, cost_append (off + x.frame.gap) xs ys))
+
+-- The same of a sum of what does not depend on the release.
+pub still_sum : (g : FrameParams → ℕ) (fs : List Frame) → sum_along (λ f o. g f) 0 (map frame_params fs) ≡ sum_by (λ (f : Frame). g (frame_params f)) fs
+unfolding sum_along
+still_sum g = is_sum_by (λ fs. sum_along (λ f o. g f) 0 (map frame_params fs)) (λ f. g (frame_params f)) refl
+    (λ f fs. ap (λ n. g (frame_params f) + n) (sum_still g (0 + f.gap) 0 (map frame_params fs)))
+
+pub work_sum : (fs : List Frame) → sum_along (λ f o. f.cost) 0 (map frame_params fs) ≡ sum_by (λ (f : Frame). f.cost) fs
+work_sum = still_sum (λ f. f.cost)
+
+pub costs_most : (fs : List Frame) → sum_by (λ (f : Frame). f.cost) fs ≤ 10000000 * length fs
+costs_most [] = omega arith
+costs_most (f ∷ fs) = omega (arith, sum_by-cons (λ (f : Frame). f.cost) f fs, costs_most fs, f.cost_range.1)
+
+-- The frames with their limits.
+abbrev pub with_limit : (FrameParams → ℕ) → Frame → Limited
+with_limit limit f = record { frame = f; limit = limit (frame_params f) }
+
+limits_within : (limit : FrameParams → ℕ) (off : ℕ) (fs : List Frame) → cost_within off (map (with_limit limit) fs) ≡ within limit off (map frame_params fs)
+unfolding sum_along
+limits_within limit off [] = refl
+limits_within limit off (f ∷ fs) = ap (λ n. cond (ltb off (limit (frame_params f))) f.cost 0 + n) (limits_within limit (off + f.gap) fs)
+
+circle-map : {A B : Type 0} (g : A → B) (k : ℕ) (xs : List A) → circle_from k (map g xs) ≡ map g (circle_from k xs)
+unfolding circle_from
+circle-map g k xs = ap₂ ◌++◌ (drop-map g k xs) (take-map g k xs) ∙ sym (map-append g (drop k xs) (take k xs))
+
+pub most_limited : (limit : FrameParams → ℕ) (fs : List Frame) (ls : List Limited) → ls ≡ map (with_limit limit) fs
+    → largest_of (λ k. cost_within 0 (circle_from k ls)) (length ls) ≡ largest_of (λ k. within limit 0 (circle_from k (map frame_params fs))) (length (map frame_params fs))
+most_limited limit fs ls e =
+    ap (λ (ms : List Limited). largest_of (λ k. cost_within 0 (circle_from k ms)) (length ms)) e
+    ∙ ap (largest_of (λ k. cost_within 0 (circle_from k (map (with_limit limit) fs)))) (length-map fs (with_limit limit) ∙ sym (length-map fs frame_params))
+    ∙ largest_same _ _ (length (map frame_params fs))
+    (λ k _. ap (cost_within 0) (circle-map (with_limit limit) k fs) ∙ limits_within limit 0 (circle_from k fs) ∙ ap (within limit 0) (sym (circle-map frame_params k fs)))
+
+-- The largest of them, as a fold, and how large it is.
+pub most_fold : (g : ℕ → ℕ) (n : ℕ) → fold max 0 (map g (range_with_len 0 n)) ≡ largest_of g n
+unfolding largest_of
+most_fold g zero = refl
+most_fold g (suc n) =
+    ap (λ m. fold max 0 (map g (range_with_len 0 m))) (sym (add-one n))
+    ∙ ap (fold max 0) (map-range_with_len_more g 0 n n (zero-add n))
+    ∙ fold_push max 0 (map g (range_with_len 0 n)) (g n)
+    ∙ omega (arith, most_fold g n)
+
+cost_most : (off : ℕ) (ls : List Limited) → cost_within off ls ≤ 10000000 * length ls
+cost_most off [] = omega arith
+cost_most off (l ∷ ls) = omega (arith, cost_most (off + l.frame.gap) ls, cond_le (ltb off l.limit) l.frame.cost, l.frame.cost_range.1)
+
+pub most_small : (ls : List Limited) → length ls ≤ 16 → largest_of (λ k. cost_within 0 (circle_from k ls)) (length ls) ≤ 160000000
+unfolding circle_from
+most_small ls h = largest_le (λ k. cost_within 0 (drop k ls ++ take k ls)) (length ls) 160000000
+    (λ k l. omega (arith, cost_most 0 (drop k ls ++ take k ls), length-append (drop k ls) (take k ls), length-drop k ls, length-take k ls))
+
+-- What is written so far, one more, and all of it.
+pub written_more : {A B : Type 0} (g : A → B) (xs : List A) (ys : List B) (i : ℕ) (x : A) (y : B) → i < length xs → i < length ys → x ≡ get_or xs i x → y ≡ g x
+    → take i ys ≡ map g (take i xs) → take (i + 1) (set ys i y) ≡ map g (take (i + 1) xs)
+written_more g xs ys i x y h l e p q = take_more_set ys i y l ∙ ap₂ (λ zs z. zs ++ (z ∷ [])) q (p ∙ ap g e) ∙ sym (map_more g xs i x h)
+
+pub written_all : {A B : Type 0} (g : A → B) (xs : List A) (ys : List B) (i : ℕ) → i ≡ length xs → take i ys ≡ map g (take i xs) → take (length xs) ys ≡ map g xs
+written_all g xs ys i e q = ap (λ n. take n ys) (sym e) ∙ q ∙ ap (map g) (take_all i xs (omega arith))
+
+-- Without frames nothing is ready.
+pub ready_none : (fs : List Frame) (s : ℕ) → length fs ≡ 0 → 0 ≡ (train_amounts (map frame_params fs)).ready s
+unfolding train_amounts largest_of
+ready_none [] s h = refl
+ready_none (f ∷ fs) s h = absurd (omega arith)

@@ -6,5 +6,4 @@ pub mod Labels
 pub mod ChannelViews
 pub mod TrainWithin
 pub mod TrainSums
-pub mod TrainLoops
 pub mod TrainMarks

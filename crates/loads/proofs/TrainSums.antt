@@ -8,12 +8,12 @@ use Rattle.std.proofs.lemmas.List.FromFn.{map-range_with_len_more}
 use Rattle.std.proofs.lemmas.List.Recursion.{is_sum_by}
 use Rattle.std.proofs.lemmas.List.Sums.{sum_by-cons, fold_push}
 use Rattle.loads.specs.declared.frame.Frame.{Frame}
-use Rattle.loads.specs.declared.train.within.Limited.{Limited}
+use Rattle.loads.specs.declared.train.rest.FrameRest.{FrameRest}
 use Rattle.loads.specs.Params.{FrameParams}
 use Rattle.loads.specs.Making.{frame_params}
 use Rattle.loads.specs.Train.{cycle, circle_from, largest_of, sum_along, within, train_amounts}
 use Rattle.loads.specs.TrainCircle.{largest_le, largest_same}
-use Rattle.loads.specs.TrainLimits.{gaps, cost_within}
+use Rattle.loads.specs.TrainRests.{gaps, cost_within}
 use Rattle.loads.specs.TrainTally.{cond_le}
 use Rattle.loads.proofs.TrainWithin.{sum_still}
 
@@ -30,7 +30,7 @@ pub gaps_most : (fs : List Frame) → sum_by (λ (f : Frame). f.gap) fs ≤ 1000
 gaps_most [] = omega arith
 gaps_most (f ∷ fs) = omega (arith, sum_by-cons (λ (f : Frame). f.gap) f fs, gaps_most fs, f.gap_range.1)
 
-pub cost_append : (off : ℕ) (xs ys : List Limited) → cost_within off (xs ++ ys) ≡ cost_within off xs + cost_within (off + gaps xs) ys
+pub cost_append : (off : ℕ) (xs ys : List FrameRest) → cost_within off (xs ++ ys) ≡ cost_within off xs + cost_within (off + gaps xs) ys
 cost_append off [] ys = rw add-zero (omega arith)
 cost_append off (x ∷ xs) ys = rw (← add_assoc off x.frame.gap (gaps xs)) (omega (arith, cost_append (off + x.frame.gap) xs ys))
 
@@ -47,26 +47,26 @@ pub costs_most : (fs : List Frame) → sum_by (λ (f : Frame). f.cost) fs ≤ 10
 costs_most [] = omega arith
 costs_most (f ∷ fs) = omega (arith, sum_by-cons (λ (f : Frame). f.cost) f fs, costs_most fs, f.cost_range.1)
 
--- The frames with their limits.
-abbrev pub with_limit : (FrameParams → ℕ) → Frame → Limited
-with_limit limit f = record { frame = f; limit = limit (frame_params f) }
+-- The frames with their rests.
+abbrev pub with_rest : (FrameParams → ℕ) → Frame → FrameRest
+with_rest limit f = record { frame = f; rest = limit (frame_params f) }
 
-limits_within : (limit : FrameParams → ℕ) (off : ℕ) (fs : List Frame) → cost_within off (map (with_limit limit) fs) ≡ within limit off (map frame_params fs)
+rests_within : (limit : FrameParams → ℕ) (off : ℕ) (fs : List Frame) → cost_within off (map (with_rest limit) fs) ≡ within limit off (map frame_params fs)
 unfolding sum_along
-limits_within limit off [] = refl
-limits_within limit off (f ∷ fs) = ap (λ n. cond (ltb off (limit (frame_params f))) f.cost 0 + n) (limits_within limit (off + f.gap) fs)
+rests_within limit off [] = refl
+rests_within limit off (f ∷ fs) = ap (λ n. cond (ltb off (limit (frame_params f))) f.cost 0 + n) (rests_within limit (off + f.gap) fs)
 
-circle-map : {A B : Type 0} (g : A → B) (k : ℕ) (xs : List A) → circle_from k (map g xs) ≡ map g (circle_from k xs)
+pub circle-map : {A B : Type 0} (g : A → B) (k : ℕ) (xs : List A) → circle_from k (map g xs) ≡ map g (circle_from k xs)
 unfolding circle_from
 circle-map g k xs = ap₂ ◌++◌ (drop-map g k xs) (take-map g k xs) ∙ sym (map-append g (drop k xs) (take k xs))
 
-pub most_limited : (limit : FrameParams → ℕ) (fs : List Frame) (ls : List Limited) → ls ≡ map (with_limit limit) fs
+pub most_rests : (limit : FrameParams → ℕ) (fs : List Frame) (ls : List FrameRest) → ls ≡ map (with_rest limit) fs
     → largest_of (λ k. cost_within 0 (circle_from k ls)) (length ls) ≡ largest_of (λ k. within limit 0 (circle_from k (map frame_params fs))) (length (map frame_params fs))
-most_limited limit fs ls e =
-    ap (λ (ms : List Limited). largest_of (λ k. cost_within 0 (circle_from k ms)) (length ms)) e
-    ∙ ap (largest_of (λ k. cost_within 0 (circle_from k (map (with_limit limit) fs)))) (length-map fs (with_limit limit) ∙ sym (length-map fs frame_params))
+most_rests limit fs ls e =
+    ap (λ (ms : List FrameRest). largest_of (λ k. cost_within 0 (circle_from k ms)) (length ms)) e
+    ∙ ap (largest_of (λ k. cost_within 0 (circle_from k (map (with_rest limit) fs)))) (length-map fs (with_rest limit) ∙ sym (length-map fs frame_params))
     ∙ largest_same _ _ (length (map frame_params fs))
-    (λ k _. ap (cost_within 0) (circle-map (with_limit limit) k fs) ∙ limits_within limit 0 (circle_from k fs) ∙ ap (within limit 0) (sym (circle-map frame_params k fs)))
+    (λ k _. ap (cost_within 0) (circle-map (with_rest limit) k fs) ∙ rests_within limit 0 (circle_from k fs) ∙ ap (within limit 0) (sym (circle-map frame_params k fs)))
 
 -- The largest of them, as a fold, and how large it is.
 pub most_fold : (g : ℕ → ℕ) (n : ℕ) → fold max 0 (map g (range_with_len 0 n)) ≡ largest_of g n
@@ -78,11 +78,11 @@ most_fold g (suc n) =
     ∙ fold_push max 0 (map g (range_with_len 0 n)) (g n)
     ∙ omega (arith, most_fold g n)
 
-cost_most : (off : ℕ) (ls : List Limited) → cost_within off ls ≤ 10000000 * length ls
+cost_most : (off : ℕ) (ls : List FrameRest) → cost_within off ls ≤ 10000000 * length ls
 cost_most off [] = omega arith
-cost_most off (l ∷ ls) = omega (arith, cost_most (off + l.frame.gap) ls, cond_le (ltb off l.limit) l.frame.cost, l.frame.cost_range.1)
+cost_most off (l ∷ ls) = omega (arith, cost_most (off + l.frame.gap) ls, cond_le (ltb off l.rest) l.frame.cost, l.frame.cost_range.1)
 
-pub most_small : (ls : List Limited) → length ls ≤ 16 → largest_of (λ k. cost_within 0 (circle_from k ls)) (length ls) ≤ 160000000
+pub most_small : (ls : List FrameRest) → length ls ≤ 16 → largest_of (λ k. cost_within 0 (circle_from k ls)) (length ls) ≤ 160000000
 unfolding circle_from
 most_small ls h = largest_le (λ k. cost_within 0 (drop k ls ++ take k ls)) (length ls) 160000000
     (λ k l. omega (arith, cost_most 0 (drop k ls ++ take k ls), length-append (drop k ls) (take k ls), length-drop k ls, length-take k ls))

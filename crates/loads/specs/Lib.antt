@@ -19,7 +19,7 @@ pub mod TaskList
 pub mod TaskMarks
 pub mod TaskLoops
 pub mod Ranged
-pub mod TrainLimits
+pub mod TrainRests
 pub mod TrainRanges
 pub mod TrainCounts
 pub mod TrainCircle

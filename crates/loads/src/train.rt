@@ -10,5 +10,6 @@ pub struct RampTrain {
 pub mod load;
 pub mod make;
 mod marks;
+mod rest;
 mod sums;
 mod within;

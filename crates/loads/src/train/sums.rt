@@ -2,8 +2,8 @@ ghost use Rattle.std.specs.Prelude.{◌≡◌, ◌<◌, ◌≤◌, length};
 ghost use Rattle.loads.specs.Train.{cycle, frames_of, sum_along, train_amounts};
 
 use super::RampTrain;
-use super::within::{Limited, Run};
-use crate::frame::Frame;
+use super::rest::FrameRest;
+use super::within::Run;
 use crate::ticks::Ticks;
 
 impl RampTrain {
@@ -34,18 +34,18 @@ impl RampTrain {
     {
         let frames = self.frames();
         let round = self.round();
-        let mut limited = [Limited::least(); 16];
+        let mut rests = [FrameRest::least(); 16];
         let mut whole = 0;
         for (i, f) in frames.iter().enumerate() {
             let time = (t.count() + 1).saturating_sub(u64::from(f.deadline()));
             whole += u64::from(f.cost()) * (time / round);
-            limited[i] = Limited {
+            rests[i] = FrameRest {
                 frame: *f,
-                limit: time % round,
+                rest: time % round,
             };
         }
         let run = Run {
-            frames: &limited[..frames.len()],
+            frames: &rests[..frames.len()],
         };
         whole + run.most_within()
     }
@@ -60,13 +60,13 @@ impl RampTrain {
             return 0;
         }
         let round = self.round();
-        let limit = s.count() % round;
-        let mut limited = [Limited::least(); 16];
+        let rest = s.count() % round;
+        let mut rests = [FrameRest::least(); 16];
         for (i, f) in frames.iter().enumerate() {
-            limited[i] = Limited { frame: *f, limit };
+            rests[i] = FrameRest { frame: *f, rest };
         }
         let run = Run {
-            frames: &limited[..frames.len()],
+            frames: &rests[..frames.len()],
         };
         self.work() * (s.count() / round) + run.most_within()
     }

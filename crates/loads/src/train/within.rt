@@ -1,37 +1,20 @@
 ghost use Rattle.std.specs.Prelude.{◌≤◌, length};
 
-use crate::frame::Frame;
+use super::rest::FrameRest;
 
-/// A frame, and the tick before which a release of it counts.
-#[derive(Clone, Copy)]
-pub(crate) struct Limited {
-    pub(crate) frame: Frame,
-    pub(crate) limit: u64,
-}
-
-impl Limited {
-    /// The least frame with limit 0, for the places that are not in use.
-    pub(crate) fn least() -> Limited {
-        Limited {
-            frame: Frame::least(),
-            limit: 0,
-        }
-    }
-}
-
-/// At most sixteen of them, released one after another, each as soon as the gaps allow.
+/// At most sixteen frames with their rests, released one after another, each as soon as the gaps allow.
 #[derive(Clone, Copy)]
 pub(crate) struct Run<'a> {
-    pub(crate) frames: &'a [Limited],
+    pub(crate) frames: &'a [FrameRest],
     ghost few: { length frames.now ≤ 16 },
 }
 
 impl<'a> Run<'a> {
     ghost use Rattle.std.specs.Prelude.{◌≡◌, ◌+◌};
     ghost use Rattle.loads.specs.Train.{circle_from, largest_of};
-    ghost use Rattle.loads.specs.TrainLimits.{gaps, cost_within};
+    ghost use Rattle.loads.specs.TrainRests.{gaps, cost_within};
 
-    /// The cost of the frames that are released before their limits, the first frame released at `start`; and the
+    /// The cost of the frames that are released within their rests, the first frame released at `start`; and the
     /// release that follows the last one.
     fn within_of(&self, start: u64) -> (u64, u64)
         requires { start ≤ 160000000 }
@@ -42,16 +25,16 @@ impl<'a> Run<'a> {
     {
         let mut off = start;
         let mut sum = 0;
-        for timed in self.frames {
-            if off < timed.limit {
-                sum += u64::from(timed.frame.cost());
+        for f in self.frames {
+            if off < f.rest {
+                sum += u64::from(f.frame.cost());
             }
-            off += u64::from(timed.frame.gap());
+            off += u64::from(f.frame.gap());
         }
         (sum, off)
     }
 
-    /// The cost of the frames released before their limits, of the circle begun at place k.
+    /// The cost of the frames released within their rests, of the circle begun at place k.
     #[tactic(auto, using(crate::proofs::TrainSums::cost_append), unfolding(crate::specs::Train::circle_from))]
     fn within_at(&self, k: usize) -> u64
         requires { k ≤ length self.now.frames.now }
@@ -64,7 +47,7 @@ impl<'a> Run<'a> {
         first + second
     }
 
-    /// The largest cost of the frames released before their limits, over the frames that the circle can begin with.
+    /// The largest cost of the frames released within their rests, over the frames that the circle can begin with.
     pub(crate) fn most_within(&self) -> u64
         ensures same { result ≡ largest_of (λ k. cost_within 0 (circle_from k self.now.frames.now)) (length self.now.frames.now) }
         ensures small { result ≤ 160000000 }

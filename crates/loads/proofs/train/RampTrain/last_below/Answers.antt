@@ -1,19 +1,44 @@
-use Rattle.std.proofs.Common.{◌≡◌, ◌-◌, ◌%◌, length, sym, ap, ◌∙◌, arith, length-set}
-use Rattle.loads.specs.Train.{cycle}
-use Rattle.loads.proofs.TrainLoops.{limits_more, limits_all}
+use Rattle.std.proofs.Common.{◌≡◌, ◌-◌, ◌%◌, map, length, sym, ap, ap₂, ◌∙◌, arith, rules}
+use Rattle.theory.specs.Meaning.{last_mark}
+use Rattle.loads.specs.Train.{cycle, circle_from, any_of, mark_from, train_amounts}
+use Rattle.loads.specs.TrainRests.{params}
+use Rattle.loads.proofs.TrainSums.{with_rest, written_more, written_all}
+use Rattle.loads.proofs.TrainMarks.{each_written, gaps_written, marks_written}
 use Rattle.loads.proofs.train.RampTrain.last_below.Goals as goal
 
 pub loop-i-preserved : goal.loop-i-preserved
 loop-i-preserved c =
+    let f = c.index-frames-i.result in
     let round = c.round-round.result in
-    let e : c.saturating_sub.result ≡ c.args.t - 1 - c.index-frames-i.result.deadline = omega arith in (
-      simp length-set c.loop-i.invariant.0,
-      limits_more (λ f. (c.args.t - 1 - f.deadline) % round) c.frames-frames.result.now c.loop-i.rests c.loop-i.i c.index-frames-i.result (c.saturating_sub.result % round)
-          c.loop-i-test.true (omega arith) c.index-frames-i.is (ap (λ x. x % round) e) c.loop-i.invariant.1,
-    )
+    let time : c.saturating_sub.result ≡ c.count-t.result - 1 - f.deadline = omega arith in
+    record {
+      places = search rules;
+      rests =
+          written_more (with_rest (λ f. (c.count-t.result - 1 - f.deadline) % round)) c.frames-frames.result.now c.loop-i.rests c.loop-i.i f _ c.loop-i-test.true (omega arith)
+          c.index-frames-i.is (ap (λ n. record { frame = f; rest = n % round }) time) c.loop-i.invariant.rests;
+    }
 
-pub last_over-requires : goal.last_over-requires
-last_over-requires c = let i : c.loop-i.i ≡ length c.frames-frames.result.now = omega arith in record {
-  each = ?;
-  whole = ?;
-}
+pub invariant_of-rounds : goal.invariant_of-rounds
+invariant_of-rounds c =
+    let fs = c.frames-frames.result.now in
+    let round = c.round-round.result in
+    let t = c.count-t.result in
+    let w = written_all _ fs c.loop-i.rests c.loop-i.i (omega arith) c.loop-i.invariant.rests in
+    let r = c.round-round.ensures.same ∙ ap cycle (sym c.frames-frames.ensures.same) in
+    record {
+      each = rw w (each_written round t fs);
+      whole = rw w (omega (arith, gaps_written (λ f. (t - 1 - f.deadline) % round) fs));
+      near = c.round-round.ensures.near;
+    }
+
+pub returns : goal.returns
+returns c =
+    let fs = c.frames-frames.result.now in
+    let round = c.round-round.result in
+    let t = c.count-t.result in
+    let w = written_all _ fs c.loop-i.rests c.loop-i.i (omega arith) c.loop-i.invariant.rests in
+    let r = c.round-round.ensures.same ∙ ap cycle (sym c.frames-frames.ensures.same) in
+    c.last_over.ensures
+    ∙ ap₂ (λ c rs. last_mark (λ u. any_of (λ k. mark_from c u 0 (map params (circle_from k rs))) (length rs)) t) r w
+    ∙ marks_written (λ f. (t - 1 - f.deadline) % round) t fs
+    ∙ ap₂ (λ ps n. last_mark (train_amounts ps).mark n) c.frames-frames.ensures.same c.count-t.ensures

@@ -5,7 +5,7 @@ use Rattle.loads.specs.Making.{frame_params}
 use Rattle.loads.specs.Train.{cycle, frames_of, train_amounts}
 use Rattle.loads.specs.TrainRanges.{all_ranged}
 use Rattle.loads.proofs.TrainWithin.{due_split}
-use Rattle.loads.proofs.TrainSums.{with_limit, still_sum, most_limited, written_more, written_all}
+use Rattle.loads.proofs.TrainSums.{with_rest, still_sum, most_rests, written_more, written_all}
 use Rattle.loads.proofs.train.RampTrain.most_due.Goals as goal
 
 pub loop-i-preserved : goal.loop-i-preserved
@@ -17,9 +17,9 @@ loop-i-preserved c =
       most = grind (arith, common_steps);
       added = grind (arith, common_steps);
       places = search rules;
-      limits =
-          written_more (with_limit (λ f. (c.args.t + 1 - f.deadline) % round)) c.frames-frames.result.now c.loop-i.limited c.loop-i.i f _ c.loop-i-test.true (omega arith)
-          c.index-frames-i.is (ap (λ n. record { frame = f; limit = n % round }) time) c.loop-i.invariant.limits;
+      rests =
+          written_more (with_rest (λ f. (c.args.t + 1 - f.deadline) % round)) c.frames-frames.result.now c.loop-i.rests c.loop-i.i f _ c.loop-i-test.true (omega arith)
+          c.index-frames-i.is (ap (λ n. record { frame = f; rest = n % round }) time) c.loop-i.invariant.rests;
     }
 
 pub returns : goal.returns
@@ -30,6 +30,6 @@ returns c =
     let i : c.loop-i.i ≡ length fs = omega arith in
     let w = ap (sum_by (λ f. f.cost * ((c.args.t + 1 - f.deadline) / round))) (take_all c.loop-i.i fs (omega arith)) in
     let s = still_sum (λ f. f.cost * ((c.args.t + 1 - f.deadline) / round)) fs in
-    let m = most_limited (λ f. (c.args.t + 1 - f.deadline) % round) fs _ (written_all _ fs c.loop-i.limited c.loop-i.i i c.loop-i.invariant.limits) in
+    let m = most_rests (λ f. (c.args.t + 1 - f.deadline) % round) fs _ (written_all _ fs c.loop-i.rests c.loop-i.i i c.loop-i.invariant.rests) in
     let d = due_split c.args.t round (map frame_params fs) (all_ranged fs) (c.round-round.ensures.same ∙ ap cycle (sym e)) in
     omega (arith, ap (λ ps. (train_amounts ps).due c.args.t) e)

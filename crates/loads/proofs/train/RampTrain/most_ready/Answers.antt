@@ -4,7 +4,7 @@ use Rattle.loads.specs.Making.{frame_params}
 use Rattle.loads.specs.Train.{cycle, sum_along, train_amounts}
 use Rattle.loads.specs.TrainRanges.{all_ranged}
 use Rattle.loads.proofs.TrainWithin.{ready_split}
-use Rattle.loads.proofs.TrainSums.{with_limit, ready_none, most_limited, written_more, written_all}
+use Rattle.loads.proofs.TrainSums.{with_rest, ready_none, most_rests, written_more, written_all}
 use Rattle.loads.proofs.train.RampTrain.most_ready.Goals as goal
 
 pub returns-then-is_empty : goal.returns-then-is_empty
@@ -15,8 +15,8 @@ returns-then-is_empty c =
 pub loop-i-preserved : goal.loop-i-preserved
 loop-i-preserved c = record {
   places = search rules;
-  limits = written_more (with_limit (λ f. c.args.s % c.round-round.result)) c.frames-frames.result.now c.loop-i.limited c.loop-i.i c.index-frames-i.result _ c.loop-i-test.true (omega arith)
-      c.index-frames-i.is (ap (λ n. record { frame = c.index-frames-i.result; limit = n % c.round-round.result }) c.count.ensures) c.loop-i.invariant.limits;
+  rests = written_more (with_rest (λ f. c.args.s % c.round-round.result)) c.frames-frames.result.now c.loop-i.rests c.loop-i.i c.index-frames-i.result _ c.loop-i-test.true (omega arith)
+      c.index-frames-i.is (ap (λ n. record { frame = c.index-frames-i.result; rest = n % c.round-round.result }) c.count.ensures) c.loop-i.invariant.rests;
 }
 
 pub returns : goal.returns
@@ -26,6 +26,6 @@ returns c =
     let e = c.frames-frames.ensures.same in
     let i : c.loop-i.i ≡ length fs = omega arith in
     let w = ap₂ (λ n s. n * (s / round)) (c.work.ensures.same ∙ ap (sum_along (λ f o. f.cost) 0) (sym e)) c.count-2.ensures in
-    let m = most_limited (λ f. c.args.s % round) fs _ (written_all _ fs c.loop-i.limited c.loop-i.i i c.loop-i.invariant.limits) in
+    let m = most_rests (λ f. c.args.s % round) fs _ (written_all _ fs c.loop-i.rests c.loop-i.i i c.loop-i.invariant.rests) in
     let d = ready_split c.args.s round (map frame_params fs) (all_ranged fs) (c.round-round.ensures.same ∙ ap cycle (sym e)) in
     omega (arith, ap (λ ps. (train_amounts ps).ready c.args.s) e)

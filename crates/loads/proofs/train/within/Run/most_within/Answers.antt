@@ -3,7 +3,7 @@ use Rattle.std.specs.List.{fold, range_with_len}
 use Rattle.std.proofs.lemmas.Iterator.{YieldsList-from_map, YieldsList-from_range}
 use Rattle.std.proofs.lemmas.Iterator.Consumers.{fold_from_yields_List}
 use Rattle.loads.specs.Train.{circle_from}
-use Rattle.loads.specs.TrainLimits.{cost_within}
+use Rattle.loads.specs.TrainRests.{cost_within}
 use Rattle.loads.proofs.TrainSums.{most_fold, most_small}
 use Rattle.loads.proofs.train.within.Run.most_within.Goals as goal
 

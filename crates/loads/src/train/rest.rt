@@ -1,0 +1,18 @@
+use crate::frame::Frame;
+
+/// A frame, and what whole rounds leave of a time.
+#[derive(Clone, Copy)]
+pub(crate) struct FrameRest {
+    pub(crate) frame: Frame,
+    pub(crate) rest: u64,
+}
+
+impl FrameRest {
+    /// The least frame without a rest, for the places that are not in use.
+    pub(crate) fn least() -> FrameRest {
+        FrameRest {
+            frame: Frame::least(),
+            rest: 0,
+        }
+    }
+}

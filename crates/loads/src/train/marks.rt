@@ -31,8 +31,9 @@ impl<'a> Rounds<'a> {
         requires left { f.now.rest ≡ (self.now.t - 1 - f.now.frame.deadline) % self.now.round }
         ensures { result ≡ last_mark (λ u. hits self.now.round u (off + f.now.frame.deadline)) self.now.t }
     {
+        let deadline = u64::from(f.frame.deadline());
         let rest = f.rest;
-        if self.t <= off + u64::from(f.frame.deadline()) {
+        if self.t <= off + deadline {
             None
         } else if off <= rest {
             Some(self.t - 1 - (rest - off))

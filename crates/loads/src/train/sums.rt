@@ -33,11 +33,12 @@ impl RampTrain {
         ensures { result ≡ (train_amounts (frames_of self.now)).due t }
     {
         let frames = self.frames();
+        let t = t.count();
         let round = self.round();
         let mut rests = [FrameRest::least(); 16];
         let mut whole = 0;
         for (i, f) in frames.iter().enumerate() {
-            let time = (t.count() + 1).saturating_sub(u64::from(f.deadline()));
+            let time = (t + 1).saturating_sub(u64::from(f.deadline()));
             whole += u64::from(f.cost()) * (time / round);
             rests[i] = FrameRest {
                 frame: *f,
@@ -59,8 +60,9 @@ impl RampTrain {
         if frames.is_empty() {
             return 0;
         }
+        let s = s.count();
         let round = self.round();
-        let rest = s.count() % round;
+        let rest = s % round;
         let mut rests = [FrameRest::least(); 16];
         for (i, f) in frames.iter().enumerate() {
             rests[i] = FrameRest { frame: *f, rest };
@@ -68,6 +70,6 @@ impl RampTrain {
         let run = Run {
             frames: &rests[..frames.len()],
         };
-        self.work() * (s.count() / round) + run.most_within()
+        self.work() * (s / round) + run.most_within()
     }
 }

@@ -1,4 +1,4 @@
-use Rattle.std.proofs.Common.{◌≡◌, ◌*◌, ◌/◌, ◌%◌, map, length, sym, ap, ap₂, ◌∙◌, arith, rules, take_all}
+use Rattle.std.proofs.Common.{◌≡◌, ◌*◌, ◌/◌, ◌%◌, map, length, sym, ap, ap₂, ◌∙◌, refl, arith, rules}
 use Rattle.std.proofs.lemmas.Bool.{eqb-true}
 use Rattle.loads.specs.Making.{frame_params}
 use Rattle.loads.specs.Train.{cycle, sum_along, train_amounts}
@@ -15,8 +15,8 @@ returns-then-is_empty c =
 pub loop-i-preserved : goal.loop-i-preserved
 loop-i-preserved c = record {
   places = search rules;
-  rests = written_more (with_rest (λ f. c.args.s % c.round-round.result)) c.frames-frames.result.now c.loop-i.rests c.loop-i.i c.index-frames-i.result _ c.loop-i-test.true (omega arith)
-      c.index-frames-i.is (ap (λ n. record { frame = c.index-frames-i.result; rest = n % c.round-round.result }) c.count.ensures) c.loop-i.invariant.rests;
+  rests = written_more (with_rest (λ f. c.count-s.result % c.round-round.result)) c.frames-frames.result.now c.loop-i.rests c.loop-i.i c.index-frames-i.result _ c.loop-i-test.true (omega arith)
+      c.index-frames-i.is refl c.loop-i.invariant.rests;
 }
 
 pub returns : goal.returns
@@ -25,7 +25,7 @@ returns c =
     let round = c.round-round.result in
     let e = c.frames-frames.ensures.same in
     let i : c.loop-i.i ≡ length fs = omega arith in
-    let w = ap₂ (λ n s. n * (s / round)) (c.work.ensures.same ∙ ap (sum_along (λ f o. f.cost) 0) (sym e)) c.count-2.ensures in
-    let m = most_rests (λ f. c.args.s % round) fs _ (written_all _ fs c.loop-i.rests c.loop-i.i i c.loop-i.invariant.rests) in
-    let d = ready_split c.args.s round (map frame_params fs) (all_ranged fs) (c.round-round.ensures.same ∙ ap cycle (sym e)) in
-    omega (arith, ap (λ ps. (train_amounts ps).ready c.args.s) e)
+    let w = ap (λ n. n * (c.count-s.result / round)) (c.work.ensures.same ∙ ap (sum_along (λ f o. f.cost) 0) (sym e)) in
+    let m = most_rests (λ f. c.count-s.result % round) fs _ (written_all _ fs c.loop-i.rests c.loop-i.i i c.loop-i.invariant.rests) in
+    let d = ready_split c.count-s.result round (map frame_params fs) (all_ranged fs) (c.round-round.ensures.same ∙ ap cycle (sym e)) in
+    omega (arith, ap₂ (λ ps n. (train_amounts ps).ready n) e c.count-s.ensures)

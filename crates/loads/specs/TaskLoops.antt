@@ -1,13 +1,13 @@
 -- A loop over tasks: what is found so far, and what the tasks ahead add to it, make the whole.
 use Rattle.std.specs.Prelude.{◌≡◌, ℕ, ◌+◌, ◌<◌, ◌≤◌, min, max, List, [], ◌∷◌, map, length, drop, Option, slice_index_or}
-use Rattle.std.proofs.Common.{sym, ap, ◌∙◌, arith, length-take}
+use Rattle.std.proofs.Common.{sym, ap, ◌∙◌, arith}
 use Rattle.std.proofs.lemmas.List.{drop_more, drop_all, length-map}
 use Rattle.theory.specs.Jobs.{All}
 use Rattle.theory.specs.Meaning.{last_mark, later}
 use Rattle.theory.proofs.LastMark.{last_none, later_none, later_assoc}
 use Rattle.loads.specs.declared.task.Task.{Task}
 use Rattle.loads.specs.declared.list.TaskList.{TaskList}
-use Rattle.loads.specs.FixedVecs.{items_of}
+use Rattle.loads.specs.FixedVecs.{items_of, items_few}
 use Rattle.loads.specs.Params.{TaskParams, TaskRanges}
 use Rattle.loads.specs.Making.{task_params}
 use Rattle.loads.specs.Tasks.{total, largest, any, task_mark}
@@ -29,7 +29,7 @@ list_ranged l = all_ranged (items_of l.tasks)
 
 -- A list holds at most 64.
 pub list_few : (l : TaskList) → length (tasks_of l) ≤ 64
-list_few l = omega (arith, length-map (items_of l.tasks) task_params, length-take l.tasks.count l.tasks.items, l.tasks.room)
+list_few l = rw length-map (items_few l.tasks)
 
 abbrev pub last_of : List TaskParams → ℕ → Option ℕ
 last_of ps t = last_mark (λ u. any (λ p. task_mark p u) ps) t

@@ -1,5 +1,5 @@
 -- Tasks, frames and end mark written in turn are the image, which reads back; a short buffer is left alone.
-use Rattle.std.proofs.Common.{◌≡◌, ◌≤◌, List, [], ◌∷◌, ◌++◌, map, length, take, sym, refl, ap, ◌∙◌, zero-add, arith, length-append, length-take}
+use Rattle.std.proofs.Common.{◌≡◌, List, [], ◌∷◌, ◌++◌, map, length, sym, refl, ap, ◌∙◌, zero-add, arith, length-append}
 use Rattle.std.proofs.lemmas.List.{length-map}
 use Rattle.loads.specs.Making.{frame_params}
 use Rattle.loads.specs.Params.{FrameParams}

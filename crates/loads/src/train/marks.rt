@@ -103,10 +103,7 @@ impl RampTrain {
         let round = self.round();
         let mut rests = [FrameRest::least(); 16];
         for (i, f) in frames.iter().enumerate() {
-            rests[i] = FrameRest {
-                frame: *f,
-                rest: t.saturating_sub(1 + u64::from(f.deadline())) % round,
-            };
+            rests[i].set(f, t.saturating_sub(1 + u64::from(f.deadline())) % round);
         }
         let rounds = Rounds {
             frames: &rests[..frames.len()],

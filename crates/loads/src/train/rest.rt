@@ -1,3 +1,5 @@
+ghost use Rattle.std.specs.Prelude.{◌≡◌};
+
 use crate::frame::Frame;
 
 /// A frame, and what whole rounds leave of a time.
@@ -14,5 +16,13 @@ impl FrameRest {
             frame: Frame::least(),
             rest: 0,
         }
+    }
+
+    /// Puts this frame and this rest in the place of what stands there.
+    pub(crate) fn set(&mut self, frame: &Frame, rest: u64)
+        ensures { self.new ≡ (record { frame = frame.now; rest = rest }) }
+    {
+        self.frame = *frame;
+        self.rest = rest;
     }
 }

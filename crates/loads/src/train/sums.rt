@@ -40,10 +40,7 @@ impl RampTrain {
         for (i, f) in frames.iter().enumerate() {
             let time = (t + 1).saturating_sub(u64::from(f.deadline()));
             whole += u64::from(f.cost()) * (time / round);
-            rests[i] = FrameRest {
-                frame: *f,
-                rest: time % round,
-            };
+            rests[i].set(f, time % round);
         }
         let run = Run {
             frames: &rests[..frames.len()],
@@ -65,7 +62,7 @@ impl RampTrain {
         let rest = s % round;
         let mut rests = [FrameRest::least(); 16];
         for (i, f) in frames.iter().enumerate() {
-            rests[i] = FrameRest { frame: *f, rest };
+            rests[i].set(f, rest);
         }
         let run = Run {
             frames: &rests[..frames.len()],

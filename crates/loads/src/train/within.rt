@@ -26,8 +26,10 @@ impl<'a> Run<'a> {
         let mut off = start;
         let mut sum = 0;
         for f in self.frames {
+            // read in any case, so that no branch is needed
+            let cost = u64::from(f.frame.cost());
             if off < f.rest {
-                sum += u64::from(f.frame.cost());
+                sum += cost;
             }
             off += u64::from(f.frame.gap());
         }

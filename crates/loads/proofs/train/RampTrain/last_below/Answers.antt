@@ -15,7 +15,7 @@ loop-i-preserved c =
       places = search rules;
       rests =
           written_more (with_rest (λ f. (c.count-t.result - 1 - f.deadline) % round)) c.frames-frames.result.now c.loop-i.rests c.loop-i.i f _ c.loop-i-test.true (omega arith)
-          c.index-frames-i.is (ap (λ n. record { frame = f; rest = n % round }) time) c.loop-i.invariant.rests;
+          c.index-frames-i.is (c.set.ensures ∙ ap (λ n. record { frame = f; rest = n % round }) time) c.loop-i.invariant.rests;
     }
 
 pub invariant_of-rounds : goal.invariant_of-rounds

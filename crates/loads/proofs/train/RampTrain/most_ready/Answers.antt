@@ -1,4 +1,4 @@
-use Rattle.std.proofs.Common.{◌≡◌, ◌*◌, ◌/◌, ◌%◌, map, length, sym, ap, ap₂, ◌∙◌, refl, arith, rules}
+use Rattle.std.proofs.Common.{◌≡◌, ◌*◌, ◌/◌, ◌%◌, map, length, sym, ap, ap₂, ◌∙◌, arith, rules}
 use Rattle.std.proofs.lemmas.Bool.{eqb-true}
 use Rattle.loads.specs.Making.{frame_params}
 use Rattle.loads.specs.Train.{cycle, sum_along, train_amounts}
@@ -16,7 +16,7 @@ pub loop-i-preserved : goal.loop-i-preserved
 loop-i-preserved c = record {
   places = search rules;
   rests = written_more (with_rest (λ f. c.count-s.result % c.round-round.result)) c.frames-frames.result.now c.loop-i.rests c.loop-i.i c.index-frames-i.result _ c.loop-i-test.true (omega arith)
-      c.index-frames-i.is refl c.loop-i.invariant.rests;
+      c.index-frames-i.is c.set.ensures c.loop-i.invariant.rests;
 }
 
 pub returns : goal.returns

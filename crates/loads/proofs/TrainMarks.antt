@@ -1,13 +1,12 @@
 -- The last mark of a train below a tick.
-use Rattle.std.proofs.Common.{◌≡◌, ℕ, zero, suc, ◌+◌, ◌-◌, ◌*◌, ◌/◌, ◌%◌, ◌<◌, ◌≤◌, Bool, true, false, ◌||◌, eqb, leb, List, [], ◌∷◌, ◌++◌, map, length, get_or, take, drop, Some, None, Option, sym, refl, ap, ◌∙◌, ap₂, zero-add, add-zero, add_assoc, mod-lt, mod-eq_of_lt, add-one, arith, length-take, length-drop, get_or-take, get_or-drop}
+use Rattle.std.proofs.Common.{◌≡◌, ℕ, zero, suc, ◌+◌, ◌-◌, ◌*◌, ◌/◌, ◌%◌, ◌<◌, ◌≤◌, Bool, true, false, ◌||◌, eqb, leb, List, [], ◌∷◌, ◌++◌, map, length, get_or, take, drop, Some, None, Option, sym, refl, ap, ◌∙◌, ap₂, add-zero, add_assoc, mod-lt, mod-eq_of_lt, arith, length-take, length-drop, get_or-take, get_or-drop}
 use mathlib.Core.List.{map-append}
 use lib.ListN.{length-map}
 use mathlib.Core.Path.{fun_ext}
 use native.Mathlib.Nat.{mod-le, mod-add-div', mul-mod_left, mul-add-mod_self_right, add-mod_right}
 use Rattle.std.specs.List.{fold, range_with_len}
 use Rattle.std.proofs.lemmas.List.{drop_all, drop_more, get_or-map}
-use Rattle.std.proofs.lemmas.List.FromFn.{map-range_with_len_more}
-use Rattle.std.proofs.lemmas.List.Sums.{fold_push, sum_by-take-drop}
+use Rattle.std.proofs.lemmas.List.Sums.{sum_by-take-drop}
 use Rattle.std.proofs.lemmas.List.Recursion.{is_sum_by}
 use Rattle.std.proofs.lemmas.Bool.{and_from, and_left, and_right, le-leb, lt-leb, eq-eqb, ne_eqb}
 use Rattle.theory.specs.Meaning.{last_mark, later}
@@ -18,7 +17,7 @@ use Rattle.loads.specs.Params.{FrameParams}
 use Rattle.loads.specs.Making.{frame_params}
 use Rattle.loads.specs.Train.{cycle, circle_from, any_of, hits, mark_from, train_amounts}
 use Rattle.loads.specs.TrainRests.{params, gaps, EachRest}
-use Rattle.loads.proofs.TrainSums.{with_rest, circle-map}
+use Rattle.loads.proofs.TrainSums.{with_rest, circle-map, fold_turn}
 
 -- The last of a, a + c, a + 2 * c, .. below t.
 pub last_hit_none : (c t o d : ℕ) → t ≤ o + d → None ≡ last_mark (λ u. hits c u (o + d)) t
@@ -135,9 +134,7 @@ pub last_fold : (g : ℕ → ℕ → Bool) (t n : ℕ) → fold later None (map 
 unfolding any_of
 last_fold g t zero = sym (last_none t)
 last_fold g t (suc n) =
-    ap (λ m. fold later None (map (λ k. last_mark (g k) t) (range_with_len 0 m))) (sym (add-one n))
-    ∙ ap (fold later None) (map-range_with_len_more (λ k. last_mark (g k) t) 0 n n (zero-add n))
-    ∙ fold_push later None (map (λ k. last_mark (g k) t) (range_with_len 0 n)) (last_mark (g n) t)
+    fold_turn later None (λ k. last_mark (g k) t) n
     ∙ ap (λ o. later o (last_mark (g n) t)) (last_fold g t n)
     ∙ later_comm _ (last_mark (g n) t)
     ∙ sym (last_either (g n) (λ u. any_of (λ k. g k u) n) t)

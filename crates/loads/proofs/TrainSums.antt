@@ -26,15 +26,11 @@ unfolding cycle
 cycle_positive [] h = absurd (omega arith)
 cycle_positive (f ∷ fs) h = omega (arith, f.gap_range.0)
 
-pub gaps_most : (fs : List Frame) → sum_by (λ (f : Frame). f.gap) fs ≤ 10000000 * length fs
-gaps_most [] = omega arith
-gaps_most (f ∷ fs) = omega (arith, sum_by-cons (λ (f : Frame). f.gap) f fs, gaps_most fs, f.gap_range.1)
+pub sum_most : (g : Frame → ℕ) → ((f : Frame) → g f ≤ 10000000) → (fs : List Frame) → sum_by g fs ≤ 10000000 * length fs
+sum_most g b [] = omega arith
+sum_most g b (f ∷ fs) = omega (arith, sum_by-cons g f fs, sum_most g b fs, b f)
 
-pub cost_append : (off : ℕ) (xs ys : List FrameRest) → cost_within off (xs ++ ys) ≡ cost_within off xs + cost_within (off + gaps xs) ys
-cost_append off [] ys = rw add-zero (omega arith)
-cost_append off (x ∷ xs) ys = rw (← add_assoc off x.frame.gap (gaps xs)) (omega (arith, cost_append (off + x.frame.gap) xs ys))
-
--- The same of a sum of what does not depend on the release.
+-- A sum of what does not depend on the release.
 pub still_sum : (g : FrameParams → ℕ) (fs : List Frame) → sum_along (λ f o. g f) 0 (map frame_params fs) ≡ sum_by (λ (f : Frame). g (frame_params f)) fs
 unfolding sum_along
 still_sum g = is_sum_by (λ fs. sum_along (λ f o. g f) 0 (map frame_params fs)) (λ f. g (frame_params f)) refl
@@ -43,40 +39,43 @@ still_sum g = is_sum_by (λ fs. sum_along (λ f o. g f) 0 (map frame_params fs))
 pub work_sum : (fs : List Frame) → sum_along (λ f o. f.cost) 0 (map frame_params fs) ≡ sum_by (λ (f : Frame). f.cost) fs
 work_sum = still_sum (λ f. f.cost)
 
-pub costs_most : (fs : List Frame) → sum_by (λ (f : Frame). f.cost) fs ≤ 10000000 * length fs
-costs_most [] = omega arith
-costs_most (f ∷ fs) = omega (arith, sum_by-cons (λ (f : Frame). f.cost) f fs, costs_most fs, f.cost_range.1)
-
 -- The frames with their rests.
 abbrev pub with_rest : (FrameParams → ℕ) → Frame → FrameRest
-with_rest limit f = record { frame = f; rest = limit (frame_params f) }
+with_rest rest f = record { frame = f; rest = rest (frame_params f) }
 
-rests_within : (limit : FrameParams → ℕ) (off : ℕ) (fs : List Frame) → cost_within off (map (with_rest limit) fs) ≡ within limit off (map frame_params fs)
+rests_within : (rest : FrameParams → ℕ) (off : ℕ) (fs : List Frame) → cost_within off (map (with_rest rest) fs) ≡ within rest off (map frame_params fs)
 unfolding sum_along
-rests_within limit off [] = refl
-rests_within limit off (f ∷ fs) = ap (λ n. cond (ltb off (limit (frame_params f))) f.cost 0 + n) (rests_within limit (off + f.gap) fs)
+rests_within rest off [] = refl
+rests_within rest off (f ∷ fs) = ap (λ n. cond (ltb off (rest (frame_params f))) f.cost 0 + n) (rests_within rest (off + f.gap) fs)
 
 pub circle-map : {A B : Type 0} (g : A → B) (k : ℕ) (xs : List A) → circle_from k (map g xs) ≡ map g (circle_from k xs)
 unfolding circle_from
 circle-map g k xs = ap₂ ◌++◌ (drop-map g k xs) (take-map g k xs) ∙ sym (map-append g (drop k xs) (take k xs))
 
-pub most_rests : (limit : FrameParams → ℕ) (fs : List Frame) (ls : List FrameRest) → ls ≡ map (with_rest limit) fs
-    → largest_of (λ k. cost_within 0 (circle_from k ls)) (length ls) ≡ largest_of (λ k. within limit 0 (circle_from k (map frame_params fs))) (length (map frame_params fs))
-most_rests limit fs ls e =
+pub most_rests : (rest : FrameParams → ℕ) (fs : List Frame) (ls : List FrameRest) → ls ≡ map (with_rest rest) fs
+    → largest_of (λ k. cost_within 0 (circle_from k ls)) (length ls) ≡ largest_of (λ k. within rest 0 (circle_from k (map frame_params fs))) (length (map frame_params fs))
+most_rests rest fs ls e =
     ap (λ (ms : List FrameRest). largest_of (λ k. cost_within 0 (circle_from k ms)) (length ms)) e
-    ∙ ap (largest_of (λ k. cost_within 0 (circle_from k (map (with_rest limit) fs)))) (length-map fs (with_rest limit) ∙ sym (length-map fs frame_params))
+    ∙ ap (largest_of (λ k. cost_within 0 (circle_from k (map (with_rest rest) fs)))) (length-map fs (with_rest rest) ∙ sym (length-map fs frame_params))
     ∙ largest_same _ _ (length (map frame_params fs))
-    (λ k _. ap (cost_within 0) (circle-map (with_rest limit) k fs) ∙ rests_within limit 0 (circle_from k fs) ∙ ap (within limit 0) (sym (circle-map frame_params k fs)))
+    (λ k _. ap (cost_within 0) (circle-map (with_rest rest) k fs) ∙ rests_within rest 0 (circle_from k fs) ∙ ap (within rest 0) (sym (circle-map frame_params k fs)))
 
--- The largest of them, as a fold, and how large it is.
+-- A fold over 0, 1, .. n, and the largest as a fold.
+pub fold_turn : {A B : Type 0} (h : B → A → B) (z : B) (g : ℕ → A) (n : ℕ) → fold h z (map g (range_with_len 0 (suc n))) ≡ h (fold h z (map g (range_with_len 0 n))) (g n)
+fold_turn h z g n =
+    ap (λ m. fold h z (map g (range_with_len 0 m))) (sym (add-one n))
+    ∙ ap (fold h z) (map-range_with_len_more g 0 n n (zero-add n))
+    ∙ fold_push h z (map g (range_with_len 0 n)) (g n)
+
 pub most_fold : (g : ℕ → ℕ) (n : ℕ) → fold max 0 (map g (range_with_len 0 n)) ≡ largest_of g n
 unfolding largest_of
 most_fold g zero = refl
-most_fold g (suc n) =
-    ap (λ m. fold max 0 (map g (range_with_len 0 m))) (sym (add-one n))
-    ∙ ap (fold max 0) (map-range_with_len_more g 0 n n (zero-add n))
-    ∙ fold_push max 0 (map g (range_with_len 0 n)) (g n)
-    ∙ omega (arith, most_fold g n)
+most_fold g (suc n) = fold_turn max 0 g n ∙ omega (arith, most_fold g n)
+
+-- Of one run and of another one after it.
+pub cost_append : (off : ℕ) (xs ys : List FrameRest) → cost_within off (xs ++ ys) ≡ cost_within off xs + cost_within (off + gaps xs) ys
+cost_append off [] ys = rw add-zero (omega arith)
+cost_append off (x ∷ xs) ys = rw (← add_assoc off x.frame.gap (gaps xs)) (omega (arith, cost_append (off + x.frame.gap) xs ys))
 
 cost_most : (off : ℕ) (ls : List FrameRest) → cost_within off ls ≤ 10000000 * length ls
 cost_most off [] = omega arith

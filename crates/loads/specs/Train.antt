@@ -53,11 +53,6 @@ unfoldable pub mark_from : ℕ → ℕ → ℕ → List FrameParams → Bool
 mark_from c t off [] = false
 mark_from c t off (f ∷ fs) = hits c t (off + f.deadline) || mark_from c t (off + f.gap) fs
 
--- For each frame, released at tick 0 and again after every c ticks: how many ticks past its last deadline the last
--- tick below t is.
-abbrev pub rests_of : ℕ → ℕ → List FrameParams → List ℕ
-rests_of c t fs = map (λ f. (t - 1 - f.deadline) % c) fs
-
 -- The largest of f 0, f 1, .. f (n - 1), and 0 where n is 0.
 unfoldable pub largest_of : (ℕ → ℕ) → ℕ → ℕ
 largest_of f zero = 0

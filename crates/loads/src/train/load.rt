@@ -16,6 +16,7 @@ impl Load for RampTrain {
         self.most_due(Ticks::upto(t)).min(1 << 40)
     }
 
+    #[tactic(auto, unfolding(crate::specs::Train::train_amounts))]
     fn held(&self, t: u64) -> u64 {
         0
     }

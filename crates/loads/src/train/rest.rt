@@ -18,7 +18,7 @@ impl FrameRest {
         }
     }
 
-    /// Puts this frame and this rest in the place of what stands there.
+    /// Puts this frame and this rest in the place of what stands there; to build a new value and copy it takes longer.
     pub(crate) fn set(&mut self, frame: &Frame, rest: u64)
         ensures { self.new ≡ (record { frame = frame.now; rest = rest }) }
     {

@@ -26,7 +26,7 @@ impl<'a> Run<'a> {
         let mut off = start;
         let mut sum = 0;
         for f in self.frames {
-            // read in any case, so that no branch is needed
+            // Read before the test, so that the loop needs no branch.
             let cost = u64::from(f.frame.cost());
             if off < f.rest {
                 sum += cost;

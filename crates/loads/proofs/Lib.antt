@@ -1,4 +1,3 @@
-pub mod Pushes
 pub mod Ceil
 pub mod PlaceLoops
 pub mod Packing
@@ -6,6 +5,5 @@ pub mod Fewer
 pub mod Labels
 pub mod ChannelViews
 pub mod TrainWithin
-pub mod TrainLoops
+pub mod TrainSums
 pub mod TrainMarks
-pub mod TrainPushes

@@ -1,20 +1,27 @@
 -- The last mark of a train below a tick.
-use Rattle.std.proofs.Common.{◌≡◌, ℕ, ◌+◌, ◌-◌, ◌*◌, ◌/◌, ◌%◌, ◌<◌, ◌≤◌, Bool, true, false, ◌||◌, eqb, leb, List, [], ◌∷◌, ◌++◌, map, length, get_or, take, drop, Some, None, Option, sym, refl, ap, ◌∙◌, ap₂, add-zero, add_assoc, mod-lt, mod-eq_of_lt, add-one, arith}
+use Rattle.std.proofs.Common.{◌≡◌, ℕ, zero, suc, ◌+◌, ◌-◌, ◌*◌, ◌/◌, ◌%◌, ◌<◌, ◌≤◌, Bool, true, false, ◌||◌, eqb, leb, List, [], ◌∷◌, ◌++◌, map, length, get_or, take, drop, Some, None, Option, sym, refl, ap, ◌∙◌, ap₂, add-zero, add_assoc, mod-lt, mod-eq_of_lt, arith, length-take, length-drop, get_or-take, get_or-drop}
+use mathlib.Core.List.{map-append}
+use lib.ListN.{length-map}
 use mathlib.Core.Path.{fun_ext}
 use native.Mathlib.Nat.{mod-le, mod-add-div', mul-mod_left, mul-add-mod_self_right, add-mod_right}
-use Rattle.std.proofs.lemmas.List.{drop_all, take-map, drop-map}
+use Rattle.std.specs.List.{fold, range_with_len}
+use Rattle.std.proofs.lemmas.List.{drop_all, drop_more, get_or-map}
+use Rattle.std.proofs.lemmas.List.Sums.{sum_by-take-drop}
+use Rattle.std.proofs.lemmas.List.Recursion.{is_sum_by}
 use Rattle.std.proofs.lemmas.Bool.{and_from, and_left, and_right, le-leb, lt-leb, eq-eqb, ne_eqb}
 use Rattle.theory.specs.Meaning.{last_mark, later}
 use Rattle.theory.proofs.LastMark.{last_is, last_either, last_none, later_none, later_assoc}
 use Rattle.loads.specs.declared.frame.Frame.{Frame}
+use Rattle.loads.specs.declared.train.rest.FrameRest.{FrameRest}
 use Rattle.loads.specs.Params.{FrameParams}
 use Rattle.loads.specs.Making.{frame_params}
-use Rattle.loads.specs.Train.{cycle, circle_from, any_of, hits, mark_from}
-use Rattle.loads.proofs.TrainLoops.{drop_next}
+use Rattle.loads.specs.Train.{cycle, circle_from, any_of, hits, mark_from, train_amounts}
+use Rattle.loads.specs.TrainRests.{params, gaps, EachRest}
+use Rattle.loads.proofs.TrainSums.{with_rest, circle-map, fold_turn}
 
 -- The last of a, a + c, a + 2 * c, .. below t.
-pub last_hit_none : (c t a : ℕ) → t ≤ a → None ≡ last_mark (λ u. hits c u a) t
-last_hit_none c t a h = sym (last_is (λ u. hits c u a) t None (λ u l. and_left (leb a u) (eqb ((u - a) % c) 0) (lt-leb a u (omega arith))))
+pub last_hit_none : (c t o d : ℕ) → t ≤ o + d → None ≡ last_mark (λ u. hits c u (o + d)) t
+last_hit_none c t o d h = sym (last_is (λ u. hits c u (o + d)) t None (λ u l. and_left (leb (o + d) u) (eqb ((u - (o + d)) % c) 0) (lt-leb (o + d) u (omega arith))))
 
 last_hit_some : (c t a : ℕ) → 0 < c → a < t → Some (t - 1 - (t - 1 - a) % c) ≡ last_mark (λ u. hits c u a) t
 last_hit_some c t a p h = sym (last_is (λ u. hits c u a) t (Some (t - 1 - (t - 1 - a) % c)) (omega (arith, mod-le (t - 1 - a) c), there, none))
@@ -58,23 +65,24 @@ pub last_late : (c t o d r : ℕ) → o < c → o + d < t → r ≡ (t - 1 - d) 
 last_late c t o d r h l p k = ap (λ x. Some (t - 1 - x)) (back_late c t o d r h l p k) ∙ last_hit_some c t (o + d) (omega arith) l
 
 -- One turn of the loop over the frames, and its end.
-pub last_next : (c t off : ℕ) (fs : List Frame) (i : ℕ) (f : Frame) (deadline gap : ℕ) (last hit : Option ℕ) → i < length fs → f ≡ get_or fs i f
-    → deadline ≡ f.deadline → gap ≡ f.gap → hit ≡ last_mark (λ u. hits c u (off + deadline)) t
-    → later last (last_mark (λ u. mark_from c u off (map frame_params (drop i fs))) t)
-    ≡ later (later last hit) (last_mark (λ u. mark_from c u (off + gap) (map frame_params (drop (i + 1) fs))) t)
+pub last_next : (c t off : ℕ) (fs : List FrameRest) (i : ℕ) (f : FrameRest) (gap : ℕ) (last hit both whole : Option ℕ) → i < length fs → f ≡ get_or fs i f
+    → gap ≡ f.frame.gap → hit ≡ last_mark (λ u. hits c u (off + f.frame.deadline)) t → both ≡ later last hit
+    → later last (last_mark (λ u. mark_from c u off (map params (drop i fs))) t) ≡ whole
+    → later both (last_mark (λ u. mark_from c u (off + gap) (map params (drop (i + 1) fs))) t) ≡ whole
 unfolding mark_from
-last_next c t off fs i f deadline gap last hit l e p q r =
-    let a = ap (λ (gs : List Frame). last_mark (λ u. mark_from c u off (map frame_params gs)) t) (drop_next fs i f l e) in
-    let b = last_either (λ u. hits c u (off + f.deadline)) (λ u. mark_from c u (off + f.gap) (map frame_params (drop (i + 1) fs))) t in
-    let x = r ∙ ap (λ d. last_mark (λ u. hits c u (off + d)) t) p in
-    let y = ap (λ d. last_mark (λ u. mark_from c u (off + d) (map frame_params (drop (i + 1) fs))) t) q in
-    ap (later last) (a ∙ b ∙ ap₂ later (sym x) (sym y)) ∙ later_assoc last hit (last_mark (λ u. mark_from c u (off + gap) (map frame_params (drop (i + 1) fs))) t)
+last_next c t off fs i f gap last hit both whole l e q r b w =
+    let ahead = last_mark (λ u. mark_from c u (off + f.frame.gap) (map params (drop (i + 1) fs))) t in
+    ap₂ (λ o d. later o (last_mark (λ u. mark_from c u (off + d) (map params (drop (i + 1) fs))) t)) (b ∙ ap (later last) r) q
+    ∙ sym (later_assoc last (last_mark (λ u. hits c u (off + f.frame.deadline)) t) ahead)
+    ∙ ap (later last) (sym (last_either (λ u. hits c u (off + f.frame.deadline)) (λ u. mark_from c u (off + f.frame.gap) (map params (drop (i + 1) fs))) t))
+    ∙ ap (λ (gs : List FrameRest). later last (last_mark (λ u. mark_from c u off (map params gs)) t)) (ap (λ (x : FrameRest). x ∷ drop (i + 1) fs) e ∙ sym (drop_more fs i f l))
+    ∙ w
 
-pub last_end : (c t off : ℕ) (fs : List Frame) (i : ℕ) (last : Option ℕ) → length fs ≤ i
-    → later last (last_mark (λ u. mark_from c u off (map frame_params (drop i fs))) t) ≡ last
+pub last_end : (c t off : ℕ) (fs : List FrameRest) (i : ℕ) (last : Option ℕ) → length fs ≤ i
+    → later last (last_mark (λ u. mark_from c u off (map params (drop i fs))) t) ≡ last
 unfolding mark_from
 last_end c t off fs i last h =
-    ap (λ (gs : List Frame). later last (last_mark (λ u. mark_from c u off (map frame_params gs)) t)) (drop_all i fs h)
+    ap (λ gs. later last (last_mark (λ u. mark_from c u off (map params gs)) t)) (drop_all i fs h)
     ∙ ap (later last) (last_none t) ∙ later_none last
 
 or_assoc : (a b c : Bool) → (a || (b || c)) ≡ ((a || b) || c)
@@ -89,29 +97,64 @@ mark_append c u off (x ∷ xs) ys =
     ∙ ap (λ n. hits c u (off + x.deadline) || (mark_from c u (off + x.gap) xs || mark_from c u n ys)) (add_assoc off x.gap (cycle xs))
     ∙ or_assoc (hits c u (off + x.deadline)) (mark_from c u (off + x.gap) xs) (mark_from c u (off + (x.gap + cycle xs)) ys)
 
--- The circle begun at place k is the part from k on and then the part before it.
-pub last_from : (c t k : ℕ) (fs before after : List Frame) (off : ℕ) (x y : Option ℕ) → before ≡ take k fs → after ≡ drop k fs
-    → off ≡ 0 + cycle (map frame_params after) → x ≡ last_mark (λ u. mark_from c u 0 (map frame_params after)) t
-    → y ≡ last_mark (λ u. mark_from c u off (map frame_params before)) t
-    → later x y ≡ last_mark (λ u. mark_from c u 0 (circle_from k (map frame_params fs))) t
-unfolding circle_from
-last_from c t k fs before after off x y b a o p q =
-    let ps = map frame_params fs in
-    let a' : map frame_params after ≡ drop k ps = ap (map frame_params) a ∙ sym (drop-map frame_params k fs) in
-    let b' : map frame_params before ≡ take k ps = ap (map frame_params) b ∙ sym (take-map frame_params k fs) in
-    let o' : off ≡ 0 + cycle (drop k ps) = o ∙ ap (λ (gs : List FrameParams). 0 + cycle gs) a' in
-    let p' = p ∙ ap (λ (gs : List FrameParams). last_mark (λ u. mark_from c u 0 gs) t) a' in
-    let q' = q ∙ ap₂ (λ n (gs : List FrameParams). last_mark (λ u. mark_from c u n gs) t) o' b' in
-    ap₂ later p' q'
-    ∙ sym (last_either (λ u. mark_from c u 0 (drop k ps)) (λ u. mark_from c u (0 + cycle (drop k ps)) (take k ps)) t)
-    ∙ ap (λ (m : ℕ → Bool). last_mark m t) (fun_ext (λ u. sym (mark_append c u 0 (drop k ps) (take k ps))))
+gaps_cycle : (fs : List FrameRest) → gaps fs ≡ cycle (map params fs)
+unfolding cycle
+gaps_cycle [] = refl
+gaps_cycle (f ∷ fs) = ap (λ n. f.frame.gap + n) (gaps_cycle fs)
 
--- One more frame to begin with, after none.
-pub last_more : (g : ℕ → ℕ → Bool) (t k : ℕ) (last x : Option ℕ) → last ≡ last_mark (λ u. any_of (λ j. g j u) k) t → x ≡ last_mark (λ u. g k u) t
-    → later x last ≡ last_mark (λ u. any_of (λ j. g j u) (k + 1)) t
-unfolding any_of
-last_more g t k last x e p = rw add-one (ap₂ later p e ∙ sym (last_either (λ u. g k u) (λ u. any_of (λ j. g j u) k) t))
+-- The parts of a circle.
+pub gaps_parts : (k : ℕ) (fs : List FrameRest) → gaps (take k fs) + gaps (drop k fs) ≡ gaps fs
+gaps_parts k fs =
+    let g = is_sum_by gaps (λ f. f.frame.gap) refl (λ _ _. refl) in
+    omega (arith, g (take k fs), g (drop k fs), g fs, sum_by-take-drop (λ (f : FrameRest). f.frame.gap) fs k)
 
-pub last_begin : (g : ℕ → ℕ → Bool) (t : ℕ) → None ≡ last_mark (λ u. any_of (λ j. g j u) 0) t
+pub each_front : (c t k : ℕ) (fs : List FrameRest) → k ≤ length fs → EachRest c t fs → EachRest c t (take k fs)
+each_front c t k fs h e = λ j d l. let m : j < k = omega (arith, length-take k fs) in rw (get_or-take k fs j d m) (e j d (omega (arith)))
+
+pub each_back : (c t k : ℕ) (fs : List FrameRest) → EachRest c t fs → EachRest c t (drop k fs)
+each_back c t k fs e = λ j d l. rw (get_or-drop k fs j d) (e (k + j) d (omega (arith, length-drop k fs)))
+
+-- The last mark of one run and of another one after it.
+pub last_append : (c t off : ℕ) (xs ys : List FrameRest) → last_mark (λ u. mark_from c u off (map params (xs ++ ys))) t
+    ≡ later (last_mark (λ u. mark_from c u off (map params xs)) t) (last_mark (λ u. mark_from c u (off + gaps xs) (map params ys)) t)
+last_append c t off xs ys =
+    ap (λ ps. last_mark (λ u. mark_from c u off ps) t) (map-append params xs ys)
+    ∙ ap (λ (m : ℕ → Bool). last_mark m t) (fun_ext (λ u. mark_append c u off (map params xs) (map params ys)))
+    ∙ last_either (λ u. mark_from c u off (map params xs)) (λ u. mark_from c u (off + cycle (map params xs)) (map params ys)) t
+    ∙ ap (λ n. later (last_mark (λ u. mark_from c u off (map params xs)) t) (last_mark (λ u. mark_from c u (off + n) (map params ys)) t)) (sym (gaps_cycle xs))
+
+-- The last mark of several, one after another.
+later_comm : (a b : Option ℕ) → later a b ≡ later b a
+later_comm None None = refl
+later_comm None (Some b) = refl
+later_comm (Some a) None = refl
+later_comm (Some a) (Some b) = ap Some (omega arith)
+
+pub last_fold : (g : ℕ → ℕ → Bool) (t n : ℕ) → fold later None (map (λ k. last_mark (g k) t) (range_with_len 0 n)) ≡ last_mark (λ u. any_of (λ k. g k u) n) t
 unfolding any_of
-last_begin g t = sym (last_none t)
+last_fold g t zero = sym (last_none t)
+last_fold g t (suc n) =
+    fold_turn later None (λ k. last_mark (g k) t) n
+    ∙ ap (λ o. later o (last_mark (g n) t)) (last_fold g t n)
+    ∙ later_comm _ (last_mark (g n) t)
+    ∙ sym (last_either (g n) (λ u. any_of (λ k. g k u) n) t)
+
+-- Of the frames with their rests, as they are written.
+params_written : (rest : FrameParams → ℕ) (fs : List Frame) → map params (map (with_rest rest) fs) ≡ map frame_params fs
+params_written rest [] = refl
+params_written rest (f ∷ fs) = ap (λ ps. frame_params f ∷ ps) (params_written rest fs)
+
+pub gaps_written : (rest : FrameParams → ℕ) (fs : List Frame) → gaps (map (with_rest rest) fs) ≡ cycle (map frame_params fs)
+gaps_written rest fs = gaps_cycle (map (with_rest rest) fs) ∙ ap cycle (params_written rest fs)
+
+pub each_written : (c t : ℕ) (fs : List Frame) → EachRest c t (map (with_rest (λ f. (t - 1 - f.deadline) % c)) fs)
+each_written c t fs = λ k d h. rw (get_or-map (with_rest (λ f. (t - 1 - f.deadline) % c)) fs k d.frame d (omega (arith, length-map fs (with_rest (λ f. (t - 1 - f.deadline) % c))))) refl
+
+pub marks_written : (rest : FrameParams → ℕ) (t : ℕ) (fs : List Frame)
+    → last_mark (λ u. any_of (λ k. mark_from (cycle (map frame_params fs)) u 0 (map params (circle_from k (map (with_rest rest) fs)))) (length (map (with_rest rest) fs))) t
+    ≡ last_mark (train_amounts (map frame_params fs)).mark t
+unfolding train_amounts
+marks_written rest t fs =
+    ap (λ (m : ℕ → Bool). last_mark m t) (fun_ext (λ u. ap₂ any_of
+    (fun_ext (λ k. ap (mark_from (cycle (map frame_params fs)) u 0) (sym (circle-map params k (map (with_rest rest) fs)) ∙ ap (circle_from k) (params_written rest fs))))
+    (length-map fs (with_rest rest) ∙ sym (length-map fs frame_params))))

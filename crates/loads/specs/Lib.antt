@@ -4,6 +4,7 @@ pub mod Refusals
 pub mod Making
 pub mod Tasks
 pub mod Places
+pub mod FixedVecs
 pub mod Lists
 pub mod Channels
 pub mod Slots
@@ -19,6 +20,7 @@ pub mod TaskList
 pub mod TaskMarks
 pub mod TaskLoops
 pub mod Ranged
+pub mod TrainRests
 pub mod TrainRanges
 pub mod TrainCounts
 pub mod TrainCircle

@@ -1,16 +1,17 @@
 -- A list of tasks without channels: what it holds, and one more task.
-use Rattle.std.specs.Prelude.{cond, List, [], ◌∷◌, ◌++◌, map, length, take, Ok, Err, Result, nat_lt}
+use Rattle.std.specs.Prelude.{List, map, Result}
 use Rattle.loads.specs.declared.refusal.Refusal.{Refusal}
 use Rattle.loads.specs.declared.refusal.Refusal.TheVariants.{NoChannel}
 use Rattle.loads.specs.declared.list.TaskList.{TaskList}
+use Rattle.loads.specs.FixedVecs.{items_of, added}
 use Rattle.loads.specs.Params.{TaskParams}
 use Rattle.loads.specs.Making.{task_params}
 
--- The tasks that a list holds, in order: those of its first `count` places.
+-- The tasks that a list holds, in order.
 abbrev pub tasks_of : TaskList → List TaskParams
-tasks_of l = map task_params (take l.count l.tasks)
+tasks_of l = map task_params (items_of l.tasks)
 
 -- One more task at the end of a list that holds `xs`: the answer, and the tasks that it then holds. A list that holds
 -- as many as there are channels refuses and stays as it was.
 abbrev pub appended : List TaskParams → TaskParams → Result (Unit {0}) Refusal × List TaskParams
-appended xs x = cond (nat_lt (length xs) 64) (Ok tt, xs ++ (x ∷ [])) (Err NoChannel, xs)
+appended xs x = added 64 NoChannel xs x

@@ -1,10 +1,10 @@
 -- The tasks of a list keep the ranges, and are few.
-use Rattle.std.specs.Prelude.{◌≤◌, List, [], ◌∷◌, map, length, take}
-use Rattle.std.proofs.Common.{arith, length-take}
+use Rattle.std.specs.Prelude.{◌≤◌, List, [], ◌∷◌, map, length}
 use Rattle.std.proofs.lemmas.List.{length-map}
 use Rattle.theory.specs.Jobs.{All}
 use Rattle.loads.specs.declared.task.Task.{Task}
 use Rattle.loads.specs.declared.list.TaskList.{TaskList}
+use Rattle.loads.specs.FixedVecs.{items_of, items_few}
 use Rattle.loads.specs.Params.{TaskRanges}
 use Rattle.loads.specs.Making.{task_params}
 use Rattle.loads.specs.Lists.{tasks_of}
@@ -15,8 +15,8 @@ all_ranged [] = tt
 all_ranged (x ∷ xs) = (task_ranged x, all_ranged xs)
 
 pub list_ranged : (l : TaskList) → All TaskRanges (tasks_of l)
-list_ranged l = all_ranged (take l.count l.tasks)
+list_ranged l = all_ranged (items_of l.tasks)
 
 -- A list holds at most 64.
 pub list_few : (l : TaskList) → length (tasks_of l) ≤ 64
-list_few l = omega (arith, length-map (take l.count l.tasks) task_params, length-take l.count l.tasks, l.room)
+list_few l = rw length-map (items_few l.tasks)

@@ -5,6 +5,7 @@ use Rattle.theory.specs.Meaning.{Amounts, Meaning}
 use Rattle.loads.specs.declared.refusal.Refusal.{Refusal}
 use Rattle.loads.specs.declared.refusal.Refusal.TheVariants.{TrainFull}
 use Rattle.loads.specs.declared.train.RampTrain.{RampTrain}
+use Rattle.loads.specs.FixedVecs.{items_of, added}
 use Rattle.loads.specs.Params.{FrameParams}
 use Rattle.loads.specs.Making.{frame_params}
 
@@ -14,7 +15,7 @@ cycle [] = 0
 cycle (f ∷ fs) = f.gap + cycle fs
 
 -- The circle of frames begun at place k: the frames from place k to the last, and then those before place k.
-unfoldable pub circle_from : ℕ → List FrameParams → List FrameParams
+unfoldable pub circle_from : {A : Type 0} → ℕ → List A → List A
 circle_from k fs = drop k fs ++ take k fs
 
 -- How many of the ticks a, a + c, a + 2 * c, .. are at most t.
@@ -51,11 +52,6 @@ within limit off fs = sum_along (λ f o. cond (nat_lt o (limit f)) f.cost 0) off
 unfoldable pub mark_from : ℕ → ℕ → ℕ → List FrameParams → Bool
 mark_from c t off [] = false
 mark_from c t off (f ∷ fs) = hits c t (off + f.deadline) || mark_from c t (off + f.gap) fs
-
--- For each frame, released at tick 0 and again after every c ticks: how many ticks past its last deadline the last
--- tick below t is.
-abbrev pub rests_of : ℕ → ℕ → List FrameParams → List ℕ
-rests_of c t fs = map (λ f. (t - 1 - f.deadline) % c) fs
 
 -- The largest of f 0, f 1, .. f (n - 1), and 0 where n is 0.
 unfoldable pub largest_of : (ℕ → ℕ) → ℕ → ℕ
@@ -99,14 +95,14 @@ InTurn (f ∷ fs) (j ∷ js) = OfFrame f j × FromTick (j.release + f.gap) js ×
 abbrev pub train_meaning : List FrameParams → Meaning
 train_meaning fs = record { amounts = train_amounts fs; Permits = λ js. (k : ℕ) × InTurn (circle_from k fs) js }
 
--- The frames that a train holds, in order: those of its first `count` places.
+-- The frames that a train holds, in order.
 abbrev pub frames_of : RampTrain → List FrameParams
-frames_of r = map frame_params (take r.count r.frames)
+frames_of r = map frame_params (items_of r.frames)
 
 -- One more frame at the end of a train that holds `fs`: the answer, and the frames that it then holds. A train that
 -- holds sixteen refuses and stays as it was.
 abbrev pub pushed : List FrameParams → FrameParams → Result (Unit {0}) Refusal × List FrameParams
-pushed fs f = cond (nat_lt (length fs) 16) (Ok tt, fs ++ (f ∷ [])) (Err TrainFull, fs)
+pushed fs f = added 16 TrainFull fs f
 
 -- A train that holds `old` filled with `fs`: the answer, and the frames that it then holds. They replace what it held,
 -- unless they are more than sixteen.

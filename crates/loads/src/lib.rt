@@ -3,6 +3,7 @@
 #![tactic(auto)]
 
 pub mod entry;
+mod fixed_vec;
 pub mod frame;
 pub mod list;
 pub mod marks;

@@ -3,6 +3,7 @@ ghost use Rattle.loads.specs.Making.{task_params};
 ghost use Rattle.loads.specs.Lists.{tasks_of, appended};
 
 use super::TaskList;
+use crate::fixed_vec::FixedVec;
 use crate::refusal::Refusal;
 use crate::task::Task;
 
@@ -12,8 +13,7 @@ impl TaskList {
         ensures { tasks_of result ≡ [] }
     {
         TaskList {
-            tasks: [Task::least(); 64],
-            count: 0,
+            tasks: FixedVec::new(Task::least()),
         }
     }
 
@@ -21,19 +21,13 @@ impl TaskList {
     pub fn tasks(&self) -> &[Task]
         ensures { map task_params result.now ≡ tasks_of self.now }
     {
-        &self.tasks[..self.count]
+        self.tasks.as_slice()
     }
 
     /// Adds a task at the end; a list that holds as many as there are channels refuses with 7 and stays as it was.
     pub fn push(&mut self, task: Task) -> Result<(), Refusal>
         ensures { (result, tasks_of self.new) ≡ appended (tasks_of self.old) (task_params task) }
     {
-        if self.count == 64 {
-            return Err(Refusal::NoChannel);
-        }
-        let i = self.count;
-        self.tasks[i] = task;
-        self.count = i + 1;
-        Ok(())
+        self.tasks.push(task).map_err(|_| Refusal::NoChannel)
     }
 }

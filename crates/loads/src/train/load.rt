@@ -3,8 +3,7 @@ ghost use Rattle.loads.specs.TrainRanges.{frames_ranged};
 ghost use Rattle.loads.specs.TrainLaws.{train_laws};
 
 use super::RampTrain;
-use super::marks::last_below;
-use super::sums::{most_due, most_ready};
+use crate::ticks::Ticks;
 use theory::load::Load;
 
 /// A train is a load: each amount is the largest over the frames that the circle can begin with.
@@ -14,18 +13,19 @@ impl Load for RampTrain {
     ghost lawful = { λ x. train_laws (frames_of x) (frames_ranged x) };
 
     fn due(&self, t: u64) -> u64 {
-        most_due(self.frames(), t.min(100_000_000)).min(1 << 40)
+        self.most_due(Ticks::upto(t)).min(1 << 40)
     }
 
+    #[tactic(auto, unfolding(crate::specs::Train::train_amounts))]
     fn held(&self, t: u64) -> u64 {
         0
     }
 
     fn ready(&self, s: u64) -> u64 {
-        most_ready(self.frames(), s.min(100_000_000)).min(1 << 40)
+        self.most_ready(Ticks::upto(s)).min(1 << 40)
     }
 
     fn last_mark(&self, t: u64) -> Option<u64> {
-        last_below(self.frames(), t.min(100_000_000))
+        self.last_below(Ticks::upto(t))
     }
 }

@@ -3,6 +3,7 @@ ghost use Rattle.loads.specs.Making.{frame_params};
 ghost use Rattle.loads.specs.Train.{frames_of, pushed, refilled, made_train, train_made};
 
 use super::RampTrain;
+use crate::fixed_vec::FixedVec;
 use crate::frame::Frame;
 use crate::refusal::Refusal;
 
@@ -12,8 +13,7 @@ impl RampTrain {
         ensures { frames_of result ≡ [] }
     {
         RampTrain {
-            frames: [Frame::least(); 16],
-            count: 0,
+            frames: FixedVec::new(Frame::least()),
         }
     }
 
@@ -33,20 +33,14 @@ impl RampTrain {
         ensures same { map frame_params result.now ≡ frames_of self.now }
         ensures few { length result.now ≤ 16 }
     {
-        &self.frames[..self.count]
+        self.frames.as_slice()
     }
 
     /// Adds a frame at the end; a train that holds sixteen refuses and stays as it was.
     pub fn push(&mut self, f: Frame) -> Result<(), Refusal>
         ensures { (result, frames_of self.new) ≡ pushed (frames_of self.old) (frame_params f) }
     {
-        if self.count == 16 {
-            return Err(Refusal::TrainFull);
-        }
-        let i = self.count;
-        self.frames[i] = f;
-        self.count = i + 1;
-        Ok(())
+        self.frames.push(f).map_err(|_| Refusal::TrainFull)
     }
 
     /// Replaces what the train holds by these frames; more than sixteen are refused, and the train stays as it was.

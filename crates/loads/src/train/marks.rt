@@ -1,83 +1,115 @@
-ghost use Rattle.std.specs.Prelude.{◌≡◌, ◌+◌, ◌-◌, ◌%◌, ◌<◌, ◌≤◌, map, length};
-ghost use Rattle.theory.specs.Meaning.{last_mark};
-ghost use Rattle.loads.specs.Making.{frame_params};
-ghost use Rattle.loads.specs.Train.{cycle, circle_from, hits, mark_from, rests_of, train_amounts};
+ghost use Rattle.std.specs.Prelude.{◌≤◌};
+ghost use Rattle.loads.specs.TrainRests.{gaps, EachRest};
 
-use super::sums::cycle_of;
-use crate::frame::Frame;
+use super::RampTrain;
+use super::rest::FrameRest;
 use crate::marks::later;
+use crate::ticks::Ticks;
 
-/// The last deadline below t of a frame released at `off`, and again after each round. `rest` is what is left of the
-/// last round where the frame is released at 0; a release at `off` is `off` ticks later in the round.
-fn last_hit(round: u64, t: u64, off: u64, deadline: u64, rest: u64) -> Option<u64>
-    requires within { (off < round) × (round ≤ 160000000) }
-    requires near { deadline ≤ 100000000 }
-    requires left { rest ≡ (t - 1 - deadline) % round }
-    ensures { result ≡ last_mark (λ u. hits round u (off + deadline)) t }
-{
-    if t <= off + deadline {
-        None
-    } else if off <= rest {
-        Some(t - 1 - (rest - off))
-    } else {
-        Some(t - 1 - (rest + round - off))
+/// Frames that are released again after each round, and a tick t. The rest of a frame is how many ticks past its last
+/// deadline the last tick below t is, where the frame is released at 0.
+#[derive(Clone, Copy)]
+struct Rounds<'a> {
+    frames: &'a [FrameRest],
+    round: u64,
+    t: u64,
+    ghost each: { EachRest round t frames.now },
+    ghost whole: { gaps frames.now ≤ round },
+    ghost near: { round ≤ 160000000 },
+}
+
+impl<'a> Rounds<'a> {
+    ghost use Rattle.std.specs.Prelude.{◌≡◌, ◌+◌, ◌-◌, ◌%◌, ◌<◌, length, map};
+    ghost use Rattle.theory.specs.Meaning.{last_mark};
+    ghost use Rattle.loads.specs.Train.{circle_from, any_of, hits, mark_from};
+    ghost use Rattle.loads.specs.TrainRests.{params};
+
+    /// The last deadline below t of one of the frames, first released at `off`: that is `off` ticks later in the round
+    /// than at 0.
+    fn last_hit(&self, f: &FrameRest, off: u64) -> Option<u64>
+        requires within { off < self.now.round }
+        requires left { f.now.rest ≡ (self.now.t - 1 - f.now.frame.deadline) % self.now.round }
+        ensures { result ≡ last_mark (λ u. hits self.now.round u (off + f.now.frame.deadline)) self.now.t }
+    {
+        let deadline = u64::from(f.frame.deadline());
+        let rest = f.rest;
+        if self.t <= off + deadline {
+            None
+        } else if off <= rest {
+            Some(self.t - 1 - (rest - off))
+        } else {
+            Some(self.t - 1 - (rest + self.round - off))
+        }
+    }
+
+    /// The last deadline below t, with the first frame released at `start` and each other one as soon as the gaps
+    /// allow; and the release that follows the last one.
+    fn last_of(&self, start: u64) -> (Option<u64>, u64)
+        requires { start + gaps self.now.frames.now ≤ self.now.round }
+        ensures same { result.0 ≡ last_mark (λ u. mark_from self.now.round u start (map params self.now.frames.now)) self.now.t }
+        ensures after { result.1 ≡ start + gaps self.now.frames.now }
+    {
+        let mut off = start;
+        let mut last = None;
+        for f in self.frames {
+            last = later(last, self.last_hit(f, off));
+            off += u64::from(f.frame.gap());
+        }
+        (last, off)
+    }
+
+    /// The last deadline below t of the circle begun at place k.
+    fn last_at(&self, k: usize) -> Option<u64>
+        requires { k ≤ length self.now.frames.now }
+        ensures { result ≡ last_mark (λ u. mark_from self.now.round u 0 (map params (circle_from k self.now.frames.now))) self.now.t }
+    {
+        let (before, after) = self.frames.split_at(k);
+        let after = Rounds {
+            frames: after,
+            round: self.round,
+            t: self.t,
+        };
+        let before = Rounds {
+            frames: before,
+            round: self.round,
+            t: self.t,
+        };
+        let (first, off) = after.last_of(0);
+        let (second, _) = before.last_of(off);
+        later(first, second)
+    }
+
+    /// The last deadline below t, over the frames that the circle can begin with.
+    fn last_over(&self) -> Option<u64>
+        ensures { result ≡ last_mark (λ u. any_of (λ k. mark_from self.now.round u 0 (map params (circle_from k self.now.frames.now))) (length self.now.frames.now)) self.now.t }
+    {
+        (0..self.frames.len())
+            .map(|k| self.last_at(k))
+            .fold(None, later)
     }
 }
 
-/// The last deadline below t, with the first frame released at `start`, and all of them again after each round; and the
-/// release that follows the last one.
-fn last_of(frames: &[Frame], rests: &[u64], round: u64, t: u64, start: u64) -> (Option<u64>, u64)
-    requires each { rests.now ≡ rests_of round t (map frame_params frames.now) }
-    requires within { (start + cycle (map frame_params frames.now) ≤ round) × (round ≤ 160000000) }
-    ensures same { result.0 ≡ last_mark (λ u. mark_from round u start (map frame_params frames.now)) t }
-    ensures after { result.1 ≡ start + cycle (map frame_params frames.now) }
-{
-    let mut off = start;
-    let mut last = None;
-    for (i, f) in frames.iter().enumerate() {
-        let deadline = u64::from(f.deadline());
-        last = later(last, last_hit(round, t, off, deadline, rests[i]));
-        off += u64::from(f.gap());
-    }
-    (last, off)
-}
+impl RampTrain {
+    ghost use Rattle.std.specs.Prelude.{◌≡◌};
+    ghost use Rattle.theory.specs.Meaning.{last_mark};
+    ghost use Rattle.loads.specs.Train.{frames_of, train_amounts};
 
-/// The last deadline below t of the circle begun at place k.
-fn last_at(frames: &[Frame], rests: &[u64], round: u64, t: u64, k: usize) -> Option<u64>
-    requires place { k < length frames.now }
-    requires each { rests.now ≡ rests_of round t (map frame_params frames.now) }
-    requires whole { (round ≡ cycle (map frame_params frames.now)) × (round ≤ 160000000) }
-    ensures { result ≡ last_mark (λ u. mark_from round u 0 (circle_from k (map frame_params frames.now))) t }
-{
-    let (before, after) = frames.split_at(k);
-    let (early, late) = rests.split_at(k);
-    let (first, off) = last_of(after, late, round, t, 0);
-    let (second, _) = last_of(before, early, round, t, off);
-    later(first, second)
-}
-
-/// The last deadline below t, over the frames that the circle can begin with.
-fn last_over(frames: &[Frame], rests: &[u64], round: u64, t: u64) -> Option<u64>
-    requires each { rests.now ≡ rests_of round t (map frame_params frames.now) }
-    requires whole { (round ≡ cycle (map frame_params frames.now)) × (round ≤ 160000000) }
-    ensures { result ≡ last_mark (train_amounts (map frame_params frames.now)).mark t }
-{
-    let mut last = None;
-    for k in 0..frames.len() {
-        last = later(last_at(frames, rests, round, t, k), last);
+    /// The last mark below t.
+    pub(crate) fn last_below(&self, t: Ticks) -> Option<u64>
+        ensures { result ≡ last_mark (train_amounts (frames_of self.now)).mark t }
+    {
+        let frames = self.frames();
+        let t = t.count();
+        let round = self.round();
+        let mut rests = [FrameRest::least(); 16];
+        for (i, f) in frames.iter().enumerate() {
+            rests[i].set(f, t.saturating_sub(1 + u64::from(f.deadline())) % round);
+        }
+        let rounds = Rounds {
+            frames: &rests[..frames.len()],
+            round,
+            t,
+        };
+        rounds.last_over()
     }
-    last
-}
-
-/// The last mark below t.
-pub(crate) fn last_below(frames: &[Frame], t: u64) -> Option<u64>
-    requires { length frames.now ≤ 16 }
-    ensures { result ≡ last_mark (train_amounts (map frame_params frames.now)).mark t }
-{
-    let round = cycle_of(frames);
-    let mut rests = [0; 16];
-    for (i, f) in frames.iter().enumerate() {
-        rests[i] = t.saturating_sub(1 + u64::from(f.deadline())) % round;
-    }
-    last_over(frames, &rests[..frames.len()], round, t)
 }

@@ -1,5 +1,5 @@
 -- Tasks, frames and end mark written in turn are the image, which reads back; a short buffer is left alone.
-use Rattle.std.proofs.Common.{◌≡◌, ◌≤◌, List, [], ◌∷◌, ◌++◌, map, length, take, sym, refl, ap, ◌∙◌, zero-add, arith, length-append, length-take}
+use Rattle.std.proofs.Common.{◌≡◌, List, [], ◌∷◌, ◌++◌, map, length, sym, refl, ap, ◌∙◌, zero-add, arith, length-append}
 use Rattle.std.proofs.lemmas.List.{length-map}
 use Rattle.loads.specs.Making.{frame_params}
 use Rattle.loads.specs.Params.{FrameParams}
@@ -7,7 +7,7 @@ use Rattle.loads.specs.Train.{frames_of}
 use Rattle.theory.specs.Meaning.{Meaning, Laws}
 use Rattle.loads.specs.declared.train.RampTrain.{RampTrain}
 use Rattle.loads.specs.Channels.{Channels, blank}
-use Rattle.loads.specs.TrainRanges.{frames_ranged}
+use Rattle.loads.specs.TrainRanges.{frames_ranged, frames_few}
 use Rattle.plan.specs.declared.call.Call.{Call}
 use Rattle.plan.specs.Ledger.{ledger, after}
 use Rattle.format.specs.Encode.{encode}
@@ -18,12 +18,8 @@ use Rattle.format.proofs.Places.{chain}
 use Rattle.format.proofs.WriteTurns.{encode_parts, length_frames, length_encode, written_short, written_all}
 use Rattle.image.proofs.write.write.Goals as goal
 
--- A train has at most sixteen frames, in range.
-few : (t : RampTrain) → length (frames_of t) ≤ 16
-few t = omega (arith, length-map (take t.count t.frames) frame_params, length-take t.count t.frames, t.room)
-
 back_of : (m : Meaning) → Laws m → (l : Channels) (t : RampTrain) (before : List Call) → l ≡ after m blank before → ReadsAgain m l (frames_of t)
-back_of m h l t before e = reads_again m h before l (frames_of t) e (few t) (frames_ranged t)
+back_of m h l t before e = reads_again m h before l (frames_of t) e (frames_few t) (frames_ranged t)
 
 pub overflow_add-total : goal.overflow_add-total
 overflow_add-total g c = omega (arith, c.tasks_len.ensures.bound, c.frames-frames.ensures.few)

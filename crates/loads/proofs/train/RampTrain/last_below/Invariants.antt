@@ -1,0 +1,9 @@
+use Rattle.std.proofs.Common.{◌≡◌, ◌-◌, ◌%◌, map, length, take}
+use Rattle.loads.proofs.TrainSums.{with_rest}
+use Rattle.loads.proofs.train.RampTrain.last_below.Given as goal
+
+abbrev pub invariant-loop-i : goal.invariant-loop-i
+invariant-loop-i l = record {
+  places : length l.rests ≡ 16;
+  rests : take l.i l.rests ≡ map (with_rest (λ f. (l.t - 1 - f.deadline) % l.round)) (take l.i l.frames);
+}

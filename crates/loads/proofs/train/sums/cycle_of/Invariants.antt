@@ -1,7 +1,0 @@
-use Rattle.std.proofs.Common.{◌≡◌, ◌+◌, ◌*◌, ◌≤◌, map, drop}
-use Rattle.loads.specs.Making.{frame_params}
-use Rattle.loads.specs.Train.{cycle}
-use Rattle.loads.proofs.train.sums.cycle_of.Given as goal
-
-abbrev pub invariant-loop-f : goal.invariant-loop-f
-invariant-loop-f l = (l.sum ≤ 10000000 * l.f-index) × (l.sum + cycle (map frame_params (drop l.f-index l.frames)) ≡ cycle (map frame_params l.frames))

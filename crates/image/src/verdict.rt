@@ -6,7 +6,7 @@ ghost use Rattle.loads.specs.Lists.{tasks_of};
 ghost use Rattle.loads.specs.Train.{frames_of, train_meaning};
 ghost use Rattle.image.specs.declared.outcome.Outcome.TheVariants.{Yes as yes};
 ghost use Rattle.format.specs.Prefixes.{weigh, first_refused};
-ghost use Rattle.image.specs.Verdict.{one_by_one, judged, by_fault, told, code_of, YesMeans};
+ghost use Rattle.image.specs.Verdict.{one_by_one, judged, told, code_of, YesMeans};
 
 use crate::frames::take_frames;
 use crate::outcome::Outcome;
@@ -15,7 +15,6 @@ use crate::tasks::add_tasks;
 use format::fault::PlanFault;
 use judge::walk::judge;
 use loads::list::TaskList;
-use loads::refusal::Refusal;
 use loads::train::RampTrain;
 use plan::beside::Beside;
 use plan::plan::calls::refusal;
@@ -31,19 +30,18 @@ fn first_refused(plan: &Beside<TaskList, RampTrain>, unfit: Unfit) -> (Unfit, us
     requires refused { Err unfit ≡ weigh (train_meaning (frames_of plan.now.second)) (tasks_of plan.now.first) }
     ensures { first_refused (train_meaning (frames_of plan.now.second)) 0 [] (tasks_of plan.now.first) ≡ Some result }
 {
-    let all = plan.first.tasks();
+    let (_, earlier) = plan.first.tasks().split_last().unwrap();
     let mut part = Beside {
         first: TaskList::new(),
         second: plan.second,
     };
-    for i in 0..all.len() - 1 {
-        let _ = part.first.push(all[i]);
-        match judge(&part) {
-            Ok(_) => {}
-            Err(early) => return (early, TASK * i),
+    for (i, task) in earlier.iter().enumerate() {
+        let _ = part.first.push(*task);
+        if let Err(early) = judge(&part) {
+            return (early, TASK * i);
         }
     }
-    (unfit, TASK * (all.len() - 1))
+    (unfit, TASK * earlier.len())
 }
 
 /// The busy period of the tasks beside the train, or why and where one is refused. Tasks that are accepted together are
@@ -59,16 +57,6 @@ fn judge_tasks(plan: &Beside<TaskList, RampTrain>) -> Result<u64, PlanFault>
             let (early, at) = first_refused(plan, unfit);
             Err(PlanFault::Refused(refusal(early), at))
         }
-    }
-}
-
-/// The outcome of a refusal at an offset.
-fn refused(refusal: Refusal, at: usize) -> Outcome
-    ensures { result ≡ by_fault (refusal, at) }
-{
-    match refusal.late() {
-        Some(late) => Outcome::Late(late, at),
-        None => Outcome::Refused(refusal.number(), at),
     }
 }
 
@@ -101,13 +89,7 @@ pub fn verdict(image: &[u8]) -> Outcome
     ensures says { result ≡ told (judged image.now) }
     ensures safe { (w : ℕ) → result ≡ yes w → YesMeans image.now w }
 {
-    match judge_image(image) {
-        Ok(busy) => Outcome::Yes(busy),
-        Err(fault) => {
-            let (refusal, at) = fault.told();
-            refused(refusal, at)
-        }
-    }
+    judge_image(image).into()
 }
 
 /// The verdict of the first 4,096 bytes of an image as one number, for a host in C: 0 for yes, 11 for late, else the
@@ -115,10 +97,5 @@ pub fn verdict(image: &[u8]) -> Outcome
 pub fn lukwaizo_check(image: &[u8]) -> u32
     ensures { result ≡ code_of (told (judged (take 4096 image.now))) }
 {
-    let seen = if image.len() > LIMIT {
-        &image[0..LIMIT]
-    } else {
-        image
-    };
-    verdict(seen).code()
+    verdict(&image[..image.len().min(LIMIT)]).code()
 }

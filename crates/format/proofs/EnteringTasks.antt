@@ -1,5 +1,6 @@
 -- Admitting the tasks of an image that has passed the check, record by record, gives what `filled` says.
 use Rattle.std.proofs.Common.{◌≡◌, ℕ, ◌+◌, ◌≤◌, List, [], ◌∷◌, ◌++◌, length, get_or, take, drop, set, Some, None, Ok, Err, Option, Result, sym, refl, ap, ◌∙◌, arith}
+use Rattle.std.specs.Result.{MatchResult, IsErrAnd}
 use Rattle.theory.specs.Meaning.{Meaning, Laws}
 use Rattle.loads.specs.declared.refusal.Refusal.{Refusal}
 use Rattle.loads.specs.declared.entry.Entry.{Entry}
@@ -49,17 +50,24 @@ module _ (g : Meaning) (bytes : List ℕ) (at : ℕ) (l m : Channels) (long : le
   answer_is : admitted g l (get_or bytes 18 0) (content entry) ≡ admitted g l (task_in bytes).channel (task_in bytes).content
   answer_is = λ i. admitted g l (channel_is i) (content_is i)
 
-  pub entered_ok : Ok tt ≡ admitted g l (get_or bytes 18 0) (content entry) → ◌≡◌ {A = Result (Unit {0}) PlanFault × Channels} (Ok tt, m) (one_entered g at (task_in bytes) l)
+  entered_ok : Ok tt ≡ admitted g l (get_or bytes 18 0) (content entry) → ◌≡◌ {A = Result (Unit {0}) PlanFault × Channels} (Ok tt, m) (one_entered g at (task_in bytes) l)
   entered_ok a =
       let s : m ≡ set l (task_in bytes).channel (Some (task_in bytes).content) =
       then ∙ ap (λ (r : Result (Unit {0}) Refusal). if_ok r (set l (get_or bytes 18 0) (Some (content entry))) l) (sym a)
       ∙ (λ i. set l (channel_is i) (Some (content_is i))) in
       ap (λ (x : Channels). let d : Done = (Ok tt, x) in d) s ∙ ap (by_answer at (task_in bytes) l) (a ∙ answer_is)
 
-  pub entered_err : (e : Refusal) → Err e ≡ admitted g l (get_or bytes 18 0) (content entry) → ◌≡◌ {A = Result (Unit {0}) PlanFault × Channels} (Err (Refused e at), m) (one_entered g at (task_in bytes) l)
+  entered_err : (e : Refusal) → Err e ≡ admitted g l (get_or bytes 18 0) (content entry) → ◌≡◌ {A = Result (Unit {0}) PlanFault × Channels} (Err (Refused e at), m) (one_entered g at (task_in bytes) l)
   entered_err e a =
       let s : m ≡ l = then ∙ ap (λ (r : Result (Unit {0}) Refusal). if_ok r (set l (get_or bytes 18 0) (Some (content entry))) l) (sym a) in
       ap (λ (x : Channels). let d : Done = (Err (Refused e at), x) in d) s ∙ ap (by_answer at (task_in bytes) l) (a ∙ answer_is)
+
+  -- The plan's answer to the task, with the offset where it refuses.
+  pub entered_is : (r : Result (Unit {0}) Refusal) (q : Result (Unit {0}) PlanFault) → r ≡ admitted g l (get_or bytes 18 0) (content entry)
+      → MatchResult r (λ x. q ≡ Ok x) (λ e. IsErrAnd q (λ f. f ≡ Refused e at)) → ◌≡◌ {A = Result (Unit {0}) PlanFault × Channels} (q, m) (one_entered g at (task_in bytes) l)
+  entered_is (Ok x) q a p = ap (λ (y : Result (Unit {0}) PlanFault). let d : Done = (y, m) in d) p ∙ entered_ok a
+  entered_is (Err e) (Ok x) a p = absurd p
+  entered_is (Err e) (Err f) a p = ap (λ (y : PlanFault). let d : Done = (Err y, m) in d) p ∙ entered_err e a
 
 -- A fault of the image that was raised.
 lowered : (x : Result (Option Piece) ImageFault) (f : RecordFault) → Err f ≡ raised x → (e : ImageFault) × (Err e ≡ x)

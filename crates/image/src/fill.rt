@@ -1,4 +1,4 @@
-ghost use Rattle.std.specs.Prelude.{◌≡◌, List, length, take, drop, None};
+ghost use Rattle.std.specs.Prelude.{◌≡◌, List, take, drop, None};
 ghost use Rattle.loads.specs.Making.{task_refusal, made_task};
 ghost use Rattle.loads.specs.Channels.{blank, content};
 ghost use Rattle.plan.specs.declared.call.Call.{Call as a_call};
@@ -10,10 +10,10 @@ ghost use Rattle.format.specs.Statements.{WritesAgain};
 ghost use Rattle.format.specs.Fills.{ranged, content_made, entry_made, one_entered, filled, Reached, KeptAgain};
 
 use crate::check::check;
-use crate::read::{label_in, next_record, size_of};
+use crate::read::{field, next_record, size_of};
 use crate::read_task::made_task;
 use format::fault::{PlanFault, RecordFault};
-use format::part::Part;
+use format::part::{Part, TASK};
 use loads::entry::Entry;
 use loads::refusal::Refusal;
 use plan::call::{Answer, Call};
@@ -21,17 +21,14 @@ use plan::plan::Plan;
 use theory::load::Load;
 
 /// What the record of a task holds for its channel, or the record's fault.
-fn entry_in(bytes: &[u8], at: usize) -> Result<Entry, RecordFault>
-    requires { length bytes.now ≡ 37 }
+fn entry_in(bytes: &[u8; TASK], at: usize) -> Result<Entry, RecordFault>
     ensures { entry_made result ≡ ranged at (content_made (take 16 (drop 2 bytes.now)) (made_task (params_in bytes.now))) }
 {
-    match made_task(bytes) {
-        Ok(task) => Ok(Entry {
-            label: label_in(bytes),
-            task,
-        }),
-        Err(e) => Err(RecordFault::Refused(e, at)),
-    }
+    let task = made_task(bytes).map_err(|e| RecordFault::Refused(e, at))?;
+    Ok(Entry {
+        label: field(bytes, 2),
+        task,
+    })
 }
 
 /// Admits a task through the call that carries the plan's promise.
@@ -51,18 +48,14 @@ fn admit_one<G: Load>(plan: &mut Plan<G>, channel: u8, entry: Entry) -> Result<(
 }
 
 /// Admits the task of a record that has passed its checks.
-fn enter<G: Load>(plan: &mut Plan<G>, bytes: &[u8], at: usize) -> Result<(), PlanFault>
-    requires { length bytes.now ≡ 37 }
+fn enter<G: Load>(plan: &mut Plan<G>, bytes: &[u8; TASK], at: usize) -> Result<(), PlanFault>
     ensures says { task_refusal (params_in bytes.now) ≡ None
         → (result, ledger plan.new) ≡ one_entered (G.Load.meaning plan.old.guest) at (task_in bytes.now) (ledger plan.old) }
     ensures reached { Reached (G.Load.meaning plan.old.guest) (ledger plan.old) (ledger plan.new) }
     ensures guest { plan.new.guest ≡ plan.old.guest }
 {
     let entry = entry_in(bytes, at)?;
-    match admit_one(plan, bytes[18], entry) {
-        Ok(()) => Ok(()),
-        Err(e) => Err(PlanFault::Refused(e, at)),
-    }
+    admit_one(plan, bytes[18], entry).map_err(|e| PlanFault::Refused(e, at))
 }
 
 /// Admits the tasks of an image into a plan, one after another, up to the first that is refused; the plan keeps the

@@ -8,23 +8,16 @@ ghost use Rattle.format.specs.Fills.{taken, FramesThen};
 use crate::check::check;
 use crate::read::{made_frame, next_part, size_of};
 use format::fault::RecordFault;
-use format::part::Part;
+use format::part::{FRAME, Part};
 use loads::train::RampTrain;
 
 /// Adds the frame of a record that has passed its checks at the end of a train with room for it.
-fn add_frame(train: &mut RampTrain, bytes: &[u8], at: usize) -> Result<(), RecordFault>
-    requires { length bytes.now ≡ 14 }
+fn add_frame(train: &mut RampTrain, bytes: &[u8; FRAME], at: usize) -> Result<(), RecordFault>
     ensures { frame_refusal (frame_in bytes.now) ≡ None → length (frames_of train.old) < 16
         → FramesThen result (frames_of train.new) (frames_of train.old ++ (frame_in bytes.now ∷ [])) }
 {
-    let added = match made_frame(bytes) {
-        Ok(frame) => train.push(frame),
-        Err(e) => Err(e),
-    };
-    match added {
-        Ok(()) => Ok(()),
-        Err(e) => Err(RecordFault::Refused(e, at)),
-    }
+    let frame = made_frame(bytes).map_err(|e| RecordFault::Refused(e, at))?;
+    train.push(frame).map_err(|e| RecordFault::Refused(e, at))
 }
 
 /// Takes the frames of an image into a train in place of what it held, or refuses and leaves it as it was. The whole

@@ -5,14 +5,13 @@ ghost use Rattle.format.specs.Records.{Rec, params_in};
 ghost use Rattle.format.specs.Decode.{decode, tasks_in};
 ghost use Rattle.format.specs.Prefixes.{params};
 
-use crate::read::{TASK, next_part};
+use crate::read::next_part;
 use crate::read_task::made_task;
-use format::part::Part;
+use format::part::{Part, TASK};
 use loads::list::TaskList;
 
 /// Adds the task of a record that has passed its checks at the end of a list with room for it.
-fn add_task(tasks: &mut TaskList, bytes: &[u8])
-    requires { length bytes.now ≡ 37 }
+fn add_task(tasks: &mut TaskList, bytes: &[u8; TASK])
     ensures { task_refusal (params_in bytes.now) ≡ None → length (tasks_of tasks.old) < 64
         → tasks_of tasks.new ≡ tasks_of tasks.old ++ (params_in bytes.now ∷ []) }
 {

@@ -10,9 +10,9 @@ ghost use Rattle.image.specs.Verdict.{one_by_one, judged, told, code_of, YesMean
 
 use crate::frames::take_frames;
 use crate::outcome::Outcome;
-use crate::read::TASK;
 use crate::tasks::add_tasks;
 use format::fault::PlanFault;
+use format::part::TASK;
 use judge::walk::judge;
 use loads::list::TaskList;
 use loads::train::RampTrain;

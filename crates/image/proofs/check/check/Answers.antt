@@ -16,11 +16,6 @@ returns-in_err-part c =
     let p = err_from_is_err_and c.from_residual.result c.from_residual.ensures.1 in
     rw (p.1, p.2) (stops c.args.image.now c.loop-part.before c.loop-part.at _ _ c.loop-part.invariant.1 c.in_err-part.ensures)
 
-pub pass-requires : goal.pass-requires
-pass-requires c =
-    let e = subst (λ (o : Option Part). shown (Ok o) ≡ part c.loop-part.at (drop c.loop-part.at c.args.image.now)) c.in-Some.is c.in_ok-part.ensures in
-    (part_known c.args.image.now c.loop-part.before c.loop-part.at (outcome (decode c.args.image.now)) (piece c.in-Some.part) e).1
-
 pub returns-in_err-before-in-Some : goal.returns-in_err-before-in-Some
 returns-in_err-before-in-Some c =
     let e = subst (λ (o : Option Part). shown (Ok o) ≡ part c.loop-part.at (drop c.loop-part.at c.args.image.now)) c.in-Some.is c.in_ok-part.ensures in

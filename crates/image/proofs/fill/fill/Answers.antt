@@ -8,7 +8,7 @@ use Rattle.format.specs.Records.{size}
 use Rattle.format.specs.Decode.{part, rec_in}
 use Rattle.format.specs.Parts.{shown_record, raised, piece}
 use Rattle.format.specs.Fills.{Reached}
-use Rattle.format.proofs.EnteringTasks.{Entering, entering_start, entering_fault, entering_end, frame_passed, task_whole, task_refused, task_entered, reached_more, kept_again, not_read, Says}
+use Rattle.format.proofs.EnteringTasks.{Entering, entering_start, entering_fault, entering_end, frame_passed, task_refused, task_entered, reached_more, kept_again, not_read, Says}
 use Rattle.format.proofs.WritesAgain.{writes_again}
 use Rattle.image.proofs.fill.fill.Given as given
 use Rattle.image.proofs.fill.fill.Goals as goal
@@ -32,11 +32,6 @@ loop-part-init g c = (omega arith, refl, entering_start (g.G.Load.meaning c.args
 pub returns-in_err-part : goal.returns-in_err-part
 returns-in_err-part g c =
     entering_fault (g.G.Load.meaning c.args.plan.now.guest) c.args.image.now c.loop-part.at (ledger c.args.plan.now) (ledger c.loop-part.plan) c.loop-part.invariant.0 c.loop-part.invariant.2 _ c.in_err-part.ensures
-
-pub enter-requires : goal.enter-requires
-enter-requires g c =
-    let e = subst (λ (o : Option Part). shown_record (Ok o) ≡ raised (part c.loop-part.at (drop c.loop-part.at c.args.image.now))) (c.in-Some.is ∙ ap {B = Option Part} Some c.in-Task.is) c.in_ok-part.ensures in
-    task_whole (g.G.Load.meaning c.args.plan.now.guest) c.args.image.now c.loop-part.at (ledger c.args.plan.now) (ledger c.loop-part.plan) c.loop-part.invariant.0 c.loop-part.invariant.2 c.in-Task.bytes.now c.in-Task.field-1 e
 
 pub returns-in_err-enter-in-Task : goal.returns-in_err-enter-in-Task
 returns-in_err-enter-in-Task g c =

@@ -6,7 +6,7 @@ use Rattle.format.specs.declared.part.Part.{Part}
 use Rattle.format.specs.Records.{size}
 use Rattle.format.specs.Decode.{part, rec_in}
 use Rattle.format.specs.Parts.{shown, piece}
-use Rattle.format.proofs.TakingFrames.{Taking, taking_start, taking_fault, taking_end, frame_whole, frame_refused, frame_taken, task_passed}
+use Rattle.format.proofs.TakingFrames.{Taking, taking_start, taking_fault, taking_end, frame_refused, frame_taken, task_passed}
 use Rattle.image.proofs.frames.take_frames.Goals as goal
 use Rattle.image.proofs.frames.take_frames.Goals.{in-Frame+in_ok-add_frame-in-Frame, in-Task}
 
@@ -15,11 +15,6 @@ loop-part-init c = (omega arith, taking_start c.args.image.now (frames_of c.new-
 
 pub returns-in_err-part : goal.returns-in_err-part
 returns-in_err-part c = taking_fault c.args.image.now c.loop-part.at (frames_of c.loop-part.fresh) (frames_of c.args.train.now) c.loop-part.invariant.0 c.loop-part.invariant.1 _ c.in_err-part.ensures
-
-pub add_frame-requires : goal.add_frame-requires
-add_frame-requires c =
-    let e = subst (λ (o : Option Part). shown (Ok o) ≡ part c.loop-part.at (drop c.loop-part.at c.args.image.now)) (c.in-Some.is ∙ ap {B = Option Part} Some c.in-Frame.is) c.in_ok-part.ensures in
-    frame_whole c.args.image.now c.loop-part.at (frames_of c.loop-part.fresh) (frames_of c.args.train.now) c.loop-part.invariant.0 c.loop-part.invariant.1 c.in-Frame.bytes.now c.in-Frame.field-1 e
 
 pub returns-in_err-add_frame-in-Frame : goal.returns-in_err-add_frame-in-Frame
 returns-in_err-add_frame-in-Frame c =

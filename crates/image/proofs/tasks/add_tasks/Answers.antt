@@ -3,16 +3,11 @@ use Rattle.loads.specs.Lists.{tasks_of}
 use Rattle.format.specs.declared.part.Part.{Part}
 use Rattle.format.specs.Decode.{part}
 use Rattle.format.specs.Parts.{shown}
-use Rattle.format.proofs.CollectingTasks.{collect_start, task_long, task_within, task_collected, at_frame, at_last, at_fault}
+use Rattle.format.proofs.CollectingTasks.{collect_start, task_within, task_collected, at_frame, at_last, at_fault}
 use Rattle.image.proofs.tasks.add_tasks.Goals as goal
 
 pub loop-next-init : goal.loop-next-init
 loop-next-init c = collect_start c.args.image.now (tasks_of c.args.tasks.now)
-
-pub add_task-requires : goal.add_task-requires
-add_task-requires c =
-    let e = subst (λ (o : Option Part). shown (Ok o) ≡ part c.loop-next.at (drop c.loop-next.at c.args.image.now)) (c.in-Some.is ∙ ap {B = Option Part} Some c.in-Task.is) c.in-Ok.ensures in
-    task_long c.args.image.now c.loop-next.at (tasks_of c.args.tasks.now) (tasks_of c.loop-next.tasks) c.loop-next.invariant c.in-Task.bytes.now c.in-Task.field-1 e
 
 pub loop-next-smaller : goal.loop-next-smaller
 loop-next-smaller c =

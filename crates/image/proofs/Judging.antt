@@ -25,9 +25,8 @@ use Rattle.format.specs.Records.{Rec, task_rec, frame_rec, start, after}
 use Rattle.format.specs.Decode.{decode, tasks_in, frames_in}
 use Rattle.format.specs.Fills.{taken, entered}
 use Rattle.format.specs.Prefixes.{params, first_refused}
-use Rattle.format.proofs.Rising.{Lawful, no_tasks, empty_blank}
+use Rattle.format.proofs.Rising.{Lawful, decoded_lawful, no_tasks, empty_blank}
 use Rattle.format.proofs.Prefixes.{Says, entering_says, laws_of, none_refused}
-use Rattle.format.proofs.CollectingTasks.{decoded_lawful}
 use Rattle.image.specs.Verdict.{first_frame, busy_or_zero, over_plan, over_train, over_records, judged, by_first, one_by_one, YesMeans}
 
 abbrev Taken : Type 0

@@ -3,10 +3,11 @@ ghost use Rattle.format.specs.Records.{task_rec, frame_rec, task_in, frame_in};
 ghost use Rattle.format.specs.Decode.{decode, passed, rec_in};
 ghost use Rattle.format.specs.Parts.{piece, offset, outcome};
 
-use crate::read::{made_frame, next_part, size_of};
+use crate::parts::Parts;
+use crate::read::made_frame;
 use crate::read_task::made_task;
 use format::before::Before;
-use format::fault::{ImageFault, RecordFault};
+use format::fault::RecordFault;
 use format::part::{FRAME, Part, TASK};
 use loads::refusal::Refusal;
 use plan::label::is_label;
@@ -60,23 +61,12 @@ fn pass(before: Before, part: Part) -> Result<Before, RecordFault>
 pub fn check(image: &[u8]) -> Result<(), RecordFault>
     ensures { result ≡ outcome (decode image.now) }
 {
-    let mut at = 0;
     let mut before = Before {
         least: 0,
         frames: 0,
     };
-    loop {
-        match next_part(image, at)? {
-            Some(part) => {
-                before = pass(before, part)?;
-                at += size_of(part);
-            }
-            None => {
-                if at + 2 < image.len() {
-                    return Err(RecordFault::Image(ImageFault::Trailing(at + 2)));
-                }
-                return Ok(());
-            }
-        }
+    for part in Parts::new(image) {
+        before = pass(before, part?)?;
     }
+    Ok(())
 }

@@ -10,7 +10,8 @@ ghost use Rattle.format.specs.Statements.{WritesAgain};
 ghost use Rattle.format.specs.Fills.{ranged, content_made, entry_made, one_entered, filled, Reached, KeptAgain};
 
 use crate::check::check;
-use crate::read::{field, next_record, size_of};
+use crate::parts::Parts;
+use crate::read::field;
 use crate::read_task::made_task;
 use format::fault::{PlanFault, RecordFault};
 use format::part::{Part, TASK};
@@ -68,13 +69,11 @@ pub fn fill<G: Load>(plan: &mut Plan<G>, image: &[u8]) -> Result<(), PlanFault>
     ensures again { WritesAgain (G.Load.meaning plan.old.guest) image.now }
 {
     check(image)?;
-    let mut at = 0;
-    while let Some(part) = next_record(image, at)? {
-        match part {
-            Part::Task(bytes, _) => enter(plan, bytes, at)?,
+    for part in Parts::new(image) {
+        match part.map_err(RecordFault::from)? {
+            Part::Task(bytes, at) => enter(plan, bytes, at)?,
             Part::Frame(_, _) => {}
         }
-        at += size_of(part);
     }
     Ok(())
 }

@@ -6,7 +6,8 @@ ghost use Rattle.format.specs.Decode.{decode};
 ghost use Rattle.format.specs.Fills.{taken, FramesThen};
 
 use crate::check::check;
-use crate::read::{made_frame, next_part, size_of};
+use crate::parts::Parts;
+use crate::read::made_frame;
 use format::fault::RecordFault;
 use format::part::{FRAME, Part};
 use loads::train::RampTrain;
@@ -27,13 +28,11 @@ pub fn take_frames(train: &mut RampTrain, image: &[u8]) -> Result<(), RecordFaul
 {
     check(image)?;
     let mut fresh = RampTrain::new();
-    let mut at = 0;
-    while let Some(part) = next_part(image, at)? {
-        match part {
-            Part::Frame(bytes, _) => add_frame(&mut fresh, bytes, at)?,
+    for part in Parts::new(image) {
+        match part? {
+            Part::Frame(bytes, at) => add_frame(&mut fresh, bytes, at)?,
             Part::Task(_, _) => {}
         }
-        at += size_of(part);
     }
     *train = fresh;
     Ok(())

@@ -2,9 +2,9 @@ ghost use Rattle.std.specs.Prelude.{◌≡◌, ◌+◌, ◌≤◌, length, take,
 ghost use Rattle.loads.specs.Making.{made_frame, frame_made};
 ghost use Rattle.format.specs.Records.{field as number_in, frame_in, size};
 ghost use Rattle.format.specs.Decode.{part, rec_in};
-ghost use Rattle.format.specs.Parts.{piece, shown, shown_record, raised};
+ghost use Rattle.format.specs.Parts.{piece, shown};
 
-use format::fault::{ImageFault, RecordFault};
+use format::fault::ImageFault;
 use format::part::{FRAME, Part, TASK};
 use loads::frame::Frame;
 use loads::refusal::Refusal;
@@ -23,13 +23,6 @@ pub fn next_part<'a>(image: &'a [u8], at: usize) -> Result<Option<Part<'a>>, Ima
         [_, _, ..] => Err(ImageFault::UnknownMark(at)),
         _ => Err(cut),
     }
-}
-
-/// The part at `at`, with an image's fault carried whole in a record's.
-pub fn next_record<'a>(image: &'a [u8], at: usize) -> Result<Option<Part<'a>>, RecordFault>
-    ensures { shown_record result ≡ raised (part at (drop at image.now)) }
-{
-    Ok(next_part(image, at)?)
 }
 
 /// How many bytes the record takes, its mark with it.

@@ -5,7 +5,7 @@ ghost use Rattle.format.specs.Records.{Rec, params_in};
 ghost use Rattle.format.specs.Decode.{decode, tasks_in};
 ghost use Rattle.format.specs.Prefixes.{params};
 
-use crate::read::next_part;
+use crate::parts::Parts;
 use crate::read_task::made_task;
 use format::part::{Part, TASK};
 use loads::list::TaskList;
@@ -25,17 +25,13 @@ pub(crate) fn add_tasks(tasks: &mut TaskList, image: &[u8])
     ensures { tasks_of tasks.old ≡ [] → (rs : List Rec) → decode image.now ≡ Ok rs
         → tasks_of tasks.new ≡ params (tasks_in rs) }
 {
-    let mut at = 0;
-    while let Ok(next) = next_part(image, at) {
-        match next {
-            Some(part) => match part {
-                Part::Task(bytes, _) => {
-                    add_task(tasks, bytes);
-                    at += TASK;
-                }
-                Part::Frame(_, _) => return,
-            },
-            None => return,
+    for part in Parts::new(image) {
+        let Ok(part) = part else {
+            return;
+        };
+        match part {
+            Part::Task(bytes, _) => add_task(tasks, bytes),
+            Part::Frame(_, _) => return,
         }
     }
 }

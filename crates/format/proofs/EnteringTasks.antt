@@ -11,18 +11,16 @@ use Rattle.plan.specs.declared.call.Call.{Call}
 use Rattle.plan.specs.declared.call.Call.TheVariants.{Admit}
 use Rattle.plan.specs.Ledger.{admitted, if_ok, next, after}
 use Rattle.format.specs.declared.before.Before.{Before}
-use Rattle.format.specs.declared.fault.ImageFault.{ImageFault}
 use Rattle.format.specs.declared.fault.RecordFault.{RecordFault}
-use Rattle.format.specs.declared.fault.RecordFault.TheVariants.{Image}
 use Rattle.format.specs.declared.fault.PlanFault.{PlanFault}
-use Rattle.format.specs.declared.fault.PlanFault.TheVariants.{Record, Refused}
+use Rattle.format.specs.declared.fault.PlanFault.TheVariants.{Refused}
 use Rattle.format.specs.Records.{Rec, task_rec, TaskRec, start, field, params_in, task_in}
 use Rattle.format.specs.Decode.{decode, task_piece, frame_piece}
 use Rattle.format.specs.Parts.{outcome, pieces_from}
 use Rattle.format.specs.Fills.{ranged, content_made, one_entered, entered, filled, Reached, KeptAgain}
 use Rattle.plan.proofs.Turns.{after_join, kept_more}
 use Rattle.format.proofs.Fields.{field_1}
-use Rattle.format.proofs.Items.{Item, Placed, all_placed, checks, clash, was_ok, More, more}
+use Rattle.format.proofs.Items.{Item, Placed, all_placed, checks, was_ok, More, more}
 use Rattle.format.proofs.Rising.{task_passes}
 
 abbrev Done : Type 0
@@ -114,9 +112,6 @@ abbrev pub Says : Meaning → List ℕ → ℕ → Channels → Channels → Res
 Says g bytes at l m r = task_refusal (params_in bytes) ≡ None → ◌≡◌ {A = Result (Unit {0}) PlanFault × Channels} (r, m) (one_entered g at (task_in bytes) l)
 
 module _ (g : Meaning) (xs : List ℕ) (l₀ l : Channels) where
-  pub entering_fault : {A : Type 0} (e : ImageFault) (is : List Item) → Entering g xs l₀ l (Err e ∷ is) → A
-  entering_fault e is k = clash (Image e) k.left k.reads
-
   pub entering_end : Entering g xs l₀ l [] → ◌≡◌ {A = Result (Unit {0}) PlanFault × Channels} (Ok tt, l) (filled g (decode xs) l₀)
   unfolding entered
   entering_end k = let e : [] ≡ k.left = let q = k.reads in cc in ap (λ (rs : List Rec). entered g k.at rs l) e ∙ k.sum
@@ -154,14 +149,6 @@ module _ (g : Meaning) (xs : List ℕ) (l₀ l : Channels) where
           sum = step_is (Ok tt, m) f;
           reached = reached_more g l₀ l m k.reached r;
         }
-
--- An image that is not read leaves the plan as it was.
-pub not_read : (g : Meaning) (xs : List ℕ) (l : Channels) (e : RecordFault) → Err e ≡ outcome (decode xs) → ◌≡◌ {A = Result (Unit {0}) PlanFault × Channels} (Err (Record e), l) (filled g (decode xs) l)
-not_read g xs l e p = go (decode xs) p
-  where
-    go : (x : Result (List Rec) RecordFault) → Err e ≡ outcome x → ◌≡◌ {A = Result (Unit {0}) PlanFault × Channels} (Err (Record e), l) (filled g x l)
-    go (Ok rs) q = let z : ◌≡◌ {A = ℕ} 0 1 = cc in absurd (omega arith)
-    go (Err f) q = let r : e ≡ f = cc in ap (λ (y : RecordFault). let d : Done = (Err (Record y), l) in d) r
 
 -- The promise stands after it.
 pub kept_again : (g : Meaning) → Laws g → (l₀ l : Channels) → Reached g l₀ l → (before : List Call) → l₀ ≡ after g blank before → KeptAgain g before l

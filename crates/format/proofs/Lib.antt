@@ -3,7 +3,6 @@ pub mod Fields
 pub mod RecordBytes
 pub mod Front
 pub mod RoundTrip
-pub mod Passes
 pub mod Items
 pub mod TakingFrames
 pub mod Rising

@@ -1,21 +1,19 @@
 -- Taking the frames of an image that has passed the check, record by record, gives what `taken` says.
-use Rattle.std.proofs.Common.{◌≡◌, ℕ, ◌+◌, ◌<◌, Bool, true, false, cond, ltb, List, [], ◌∷◌, ◌++◌, length, Some, None, Ok, Err, Option, Result, sym, refl, ap, ◌∙◌, append_assoc, arith, length-append}
-use Rattle.std.proofs.lemmas.List.{append-nil}
+use Rattle.std.proofs.Common.{◌≡◌, ℕ, ◌+◌, ◌<◌, Bool, true, false, cond, ltb, List, [], ◌∷◌, ◌++◌, length, Some, None, Ok, Option, Result, sym, refl, ap, ◌∙◌, append_assoc, arith, length-append}
 use Rattle.std.proofs.lemmas.Bool.{ltb-true}
 use Rattle.loads.specs.declared.refusal.Refusal.{Refusal}
 use Rattle.loads.specs.declared.refusal.Refusal.TheVariants.{TrainFull}
 use Rattle.loads.specs.Params.{FrameParams}
 use Rattle.loads.specs.Making.{frame_refusal}
 use Rattle.format.specs.declared.before.Before.{Before}
-use Rattle.format.specs.declared.fault.ImageFault.{ImageFault}
 use Rattle.format.specs.declared.fault.RecordFault.{RecordFault}
-use Rattle.format.specs.declared.fault.RecordFault.TheVariants.{Image, Refused}
+use Rattle.format.specs.declared.fault.RecordFault.TheVariants.{Refused}
 use Rattle.format.specs.Records.{Rec, frame_rec, start, after, fault, out_of_range, frame_in}
 use Rattle.format.specs.Decode.{decode, frames_in, task_piece, frame_piece}
 use Rattle.format.specs.Parts.{outcome, pieces_from}
 use Rattle.format.specs.Fills.{taken, FramesThen}
 use Rattle.format.proofs.Front.{AllRead}
-use Rattle.format.proofs.Items.{Item, checks, clash, was_ok, More, more}
+use Rattle.format.proofs.Items.{Item, checks, was_ok, More, more}
 
 pub out_none : (at : ℕ) (o : Option Refusal) → out_of_range at o ≡ None → o ≡ None
 out_none at None p = refl
@@ -53,14 +51,6 @@ module _ (xs : List ℕ) (held fresh : List FrameParams) where
         sum = ap (λ (x : AllRead). taken x held) w.1 ∙ ap (λ (fs : List FrameParams). let x : Answer = (Ok tt, fs ++ frames_in w.0) in x) (sym e);
       }
 
-  pub taking_fault : {A : Type 0} (e : ImageFault) (is : List Item) → Taking xs held fresh (Err e ∷ is) → A
-  taking_fault e is k = clash (Image e) k.left k.reads
-
-  pub taking_end : Taking xs held fresh [] → ◌≡◌ {A = Result (Unit {0}) RecordFault × List FrameParams} (Ok tt, fresh) (taken (decode xs) held)
-  taking_end k =
-      let e : [] ≡ k.left = let q = k.reads in cc in
-      ap (λ (fs : List FrameParams). let x : Answer = (Ok tt, fs) in x) (sym (append-nil fresh) ∙ ap (λ (rs : List Rec). fresh ++ frames_in rs) e) ∙ sym k.sum
-
   module _ (bytes : List ℕ) (place : ℕ) (is : List Item) (k : Taking xs held fresh (Ok (frame_piece bytes place) ∷ is)) where
     next_of : More k.before (frame_piece bytes place) is k.left
     next_of = more k.before (frame_piece bytes place) is k.left k.reads
@@ -69,10 +59,6 @@ module _ (xs : List ℕ) (held fresh : List FrameParams) where
     added : {r : Result (Unit {0}) RecordFault} {now : List FrameParams}
         → (frame_refusal (frame_in bytes) ≡ None → length fresh < 16 → FramesThen r now (fresh ++ (frame_in bytes ∷ []))) → FramesThen r now (fresh ++ (frame_in bytes ∷ []))
     added f = let w = frame_passes k.before place (frame_in bytes) next_of.passes in f w.1 (omega (arith, w.0, k.count))
-
-    pub frame_refused : {A : Type 0} (e : RecordFault) (now : List FrameParams)
-        → (frame_refusal (frame_in bytes) ≡ None → length fresh < 16 → FramesThen (Err e) now (fresh ++ (frame_in bytes ∷ []))) → A
-    frame_refused e now f = let w = (added f).0 in let z : ◌≡◌ {A = ℕ} 0 1 = cc in absurd (omega arith)
 
     pub frame_taken : (now : List FrameParams) → (frame_refusal (frame_in bytes) ≡ None → length fresh < 16 → FramesThen (Ok tt) now (fresh ++ (frame_in bytes ∷ [])))
         → Taking xs held now is

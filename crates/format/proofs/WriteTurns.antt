@@ -1,5 +1,5 @@
 -- Writing record by record: what is written and what is left make up the whole image.
-use Rattle.std.proofs.Common.{◌≡◌, ℕ, zero, suc, ◌+◌, ◌*◌, ◌<◌, ◌≤◌, false, ltb, leb, List, [], ◌∷◌, ◌++◌, map, length, get_or, take, drop, Bool, cond, Some, None, Ok, Err, Option, Result, sym, refl, ap, ◌∙◌, subst, append_assoc, add-zero, zero-add, add-one, take_all, arith, length-append}
+use Rattle.std.proofs.Common.{◌≡◌, ℕ, zero, suc, ◌+◌, ◌*◌, ◌<◌, ◌≤◌, false, ltb, leb, List, [], ◌∷◌, ◌++◌, map, length, get_or, take, drop, Bool, cond, Some, None, Ok, Err, Option, Result, sym, refl, ap, ◌∙◌, subst, append_assoc, add-zero, zero-add, add-one, arith, length-append}
 use Rattle.std.specs.List.{flat_map, filter, range_with_len}
 use Rattle.std.proofs.lemmas.Bool.{le-leb, lt-leb, le-ltb, cond-true, cond-false}
 use Rattle.std.proofs.lemmas.List.{append-nil, length-map, at_drop_all, at_drop_more}
@@ -97,9 +97,6 @@ module _ (t : Table Slot) (i : ℕ) (h : i < 64) where
 
   pub more_room : length (tasks_bytes 0 (take (i + 1) (channels t))) ≤ length (tasks_bytes 0 (channels t))
   more_room = tasks_front 0 (channels t) (i + 1)
-
-pub all_tasks : (t : Table Slot) (i : ℕ) → 64 ≤ i → tasks_bytes 0 (take i (channels t)) ≡ tasks_bytes 0 (channels t)
-all_tasks t i h = ap (tasks_bytes 0) (take_all i (channels t) (omega (arith, channels_length t)))
 
 pub length_task : (c : ℕ) (k : Content) → length k.label ≡ 16 → length (task_bytes (placed_in c k)) ≡ 37
 length_task c k h = simp length-append (omega (arith, h))

@@ -1,11 +1,8 @@
 -- What is written part by part is written at once.
-use Rattle.std.proofs.Common.{◌≡◌, ℕ, ◌≤◌, List, [], ◌++◌, length, refl, ◌∙◌, subst, add-zero, sym, arith, length-append}
-use Rattle.format.proofs.Places.{chain, placed_none}
+use Rattle.std.proofs.Common.{◌≡◌, ℕ, List, ◌++◌, refl, ◌∙◌, subst, arith, length-append}
+use Rattle.format.proofs.Places.{chain}
 use Rattle.image.specs.declared.write.Writer.{Writer}
 use Rattle.image.specs.Writer.{Wrote}
-
-pub wrote_none : (a : Writer) → a.at ≤ length a.out.now → Wrote a [] a
-wrote_none a h = record { at = sym (add-zero a.at); bytes = placed_none a.out.now a.at; long = refl; room = h }
 
 pub wrote_then : {a b c : Writer} {xs ys : List ℕ} → Wrote a xs b → Wrote b ys c → Wrote a (xs ++ ys) c
 wrote_then {a} {b} {c} {xs} {ys} p q = record {

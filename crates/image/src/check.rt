@@ -29,7 +29,7 @@ fn pass_task(before: Before, bytes: &[u8; TASK], at: usize) -> Result<Before, Re
     made_task(bytes).map_err(|e| RecordFault::Refused(e, at))?;
     Ok(Before {
         least: channel + 1,
-        frames: before.frames,
+        ..before
     })
 }
 
@@ -42,8 +42,8 @@ fn pass_frame(before: Before, bytes: &[u8; FRAME], at: usize) -> Result<Before, 
     }
     made_frame(bytes).map_err(|e| RecordFault::Refused(e, at))?;
     Ok(Before {
-        least: before.least,
         frames: before.frames + 1,
+        ..before
     })
 }
 

@@ -70,9 +70,8 @@ pub fn fill<G: Load>(plan: &mut Plan<G>, image: &[u8]) -> Result<(), PlanFault>
 {
     check(image)?;
     for part in Parts::new(image) {
-        match part.map_err(RecordFault::from)? {
-            Part::Task(bytes, at) => enter(plan, bytes, at)?,
-            Part::Frame(_, _) => {}
+        if let Part::Task(bytes, at) = part.map_err(RecordFault::from)? {
+            enter(plan, bytes, at)?;
         }
     }
     Ok(())

@@ -29,9 +29,8 @@ pub fn take_frames(train: &mut RampTrain, image: &[u8]) -> Result<(), RecordFaul
     check(image)?;
     let mut fresh = RampTrain::new();
     for part in Parts::new(image) {
-        match part? {
-            Part::Frame(bytes, at) => add_frame(&mut fresh, bytes, at)?,
-            Part::Task(_, _) => {}
+        if let Part::Frame(bytes, at) = part? {
+            add_frame(&mut fresh, bytes, at)?;
         }
     }
     *train = fresh;

@@ -73,13 +73,13 @@ pub fn judge_image(image: &[u8]) -> Result<u64, PlanFault>
     take_frames(&mut plan.second, image)?;
     add_tasks(&mut plan.first, image);
     let count = plan.first.tasks().len();
-    match judge(&plan.second) {
-        Ok(busy) => {
-            if count == 0 {
-                return Ok(busy);
-            }
-        }
-        Err(unfit) => return Err(PlanFault::Refused(refusal(unfit), TASK * count)),
+    let first_frame = TASK * count;
+    let busy = judge(&plan.second).map_err(|unfit| PlanFault::Refused(
+        refusal(unfit),
+        first_frame,
+    ))?;
+    if count == 0 {
+        return Ok(busy);
     }
     judge_tasks(&plan)
 }

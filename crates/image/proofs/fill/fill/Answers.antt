@@ -1,6 +1,5 @@
 -- Filling goes through the parts of a checked image as its definition does, and the promise stands after it.
 use Rattle.std.proofs.Common.{◌≡◌, [], ◌∷◌, Ok, Err, Result, sym, refl, ap, ◌∙◌, subst, arith}
-use Rattle.std.specs.Result.{MatchResult}
 use Rattle.std.proofs.lemmas.Result.{err_from_is_err_and}
 use Rattle.plan.specs.Ledger.{ledger}
 use Rattle.format.specs.declared.fault.ImageFault.{ImageFault}
@@ -11,6 +10,7 @@ use Rattle.format.specs.Parts.{seen}
 use Rattle.format.proofs.EnteringTasks.{Entering, entering_start, entering_end, frame_passed, task_refused, task_entered, reached_more, kept_again, Says}
 use Rattle.format.proofs.WritesAgain.{writes_again}
 use Rattle.image.specs.Parts.{rest}
+use Rattle.image.proofs.MapErr.{ok_kept}
 use Rattle.image.proofs.fill.fill.Given as given
 use Rattle.image.proofs.fill.fill.Goals as goal
 use Rattle.image.proofs.fill.fill.Goals.{In_ok-bytes}
@@ -26,49 +26,45 @@ loop-part-init g c = (
 )
 
 -- The invariant, with the part of this turn.
-ok_part : (r : Result Part ImageFault) (p : Part) → MatchResult r (λ x. ◌≡◌ {A = Result Part RecordFault} (Ok p) (Ok x)) (λ _. ⊥) → r ≡ Ok p
-ok_part (Ok q) p e = let z : p ≡ q = cc in ap {B = Result Part ImageFault} Ok (sym z)
-ok_part (Err f) p e = absurd e
-
 here : (g : given.Over) (c : In_ok-bytes g) (p : Part) → c.in_ok-bytes.field-0 ≡ p
     → Entering (g.G.Load.meaning c.args.plan.now.guest) c.args.image.now (ledger c.args.plan.now) (ledger c.loop-part.plan) (seen (Ok p) ∷ rest c.next.new.self)
 here g c p e =
     subst (Entering (g.G.Load.meaning c.args.plan.now.guest) c.args.image.now (ledger c.args.plan.now) (ledger c.loop-part.plan))
-    (c.in-Some.ensures.steps ∙ ap (λ x. seen x ∷ rest c.next.new.self) (ok_part c.in-Some.part c.in_ok-bytes.field-0 c.in_ok-bytes.ensures.cases ∙ ap {B = Result Part ImageFault} Ok e)) c.loop-part.invariant.1
+    (c.in-Some.ensures.steps ∙ ap (λ x. seen x ∷ rest c.next.new.self) (ok_kept RecordFault c.in-Some.part c.in_ok-bytes.field-0 c.in_ok-bytes.ensures.cases ∙ ap {B = Result Part ImageFault} Ok e)) c.loop-part.invariant.1
 
 pub loop-part-preserved-in-Continue-branch-4 : goal.loop-part-preserved-in-Continue-branch-4
 loop-part-preserved-in-Continue-branch-4 g c =
     let m = g.G.Load.meaning c.args.plan.now.guest in
     let k = here g (goal.at.loop-part-preserved-in-Continue-branch-4 g c).In_ok-bytes _ c.in-Task.is in
     let same = c.loop-part.invariant.0 in
-    let f = subst (λ x. Says (g.G.Load.meaning x) c.in-Task.bytes.now c.in-Task.at (ledger c.loop-part.plan) (ledger c.enter.new.plan) (Ok tt)) same c.in_ok-enter-in-Task.ensures.says in
+    let f = subst (λ x. Says (g.G.Load.meaning x) c.in-Task.bytes.now c.in-Task.at (ledger c.loop-part.plan) (ledger c.enter.new.plan) (Ok tt)) same c.in_ok-enter.ensures.says in
     let r = subst (λ x. Reached (g.G.Load.meaning x) (ledger c.loop-part.plan) (ledger c.enter.new.plan)) same c.enter.ensures.reached in
     (c.enter.ensures.guest ∙ same, task_entered m c.args.image.now (ledger c.args.plan.now) (ledger c.loop-part.plan) c.in-Task.bytes.now c.in-Task.at (rest c.next.new.self) k (ledger c.enter.new.plan) f r)
 
-pub returns-in_err-enter-in-Task-clause-says : goal.returns-in_err-enter-in-Task-clause-says
-returns-in_err-enter-in-Task-clause-says g c =
+pub returns-in_err-enter-clause-says : goal.returns-in_err-enter-clause-says
+returns-in_err-enter-clause-says g c =
     let m = g.G.Load.meaning c.args.plan.now.guest in
-    let k = here g (goal.at.returns-in_err-enter-in-Task-clause-says g c).In_ok-bytes _ c.in-Task.is in
+    let k = here g (goal.at.returns-in_err-enter-clause-says g c).In_ok-bytes _ c.in-Task.is in
     let same = c.loop-part.invariant.0 in
-    let f = subst (λ x. Says (g.G.Load.meaning x) c.in-Task.bytes.now c.in-Task.at (ledger c.loop-part.plan) (ledger c.enter.new.plan) (Err c.in_err-enter-in-Task.field-0.0)) same c.in_err-enter-in-Task.ensures.says in
-    let p = err_from_is_err_and c.from_residual-in_err-enter-in-Task.result c.from_residual-in_err-enter-in-Task.ensures.1 in
-    rw (p.1, p.2) (task_refused m c.args.image.now (ledger c.args.plan.now) (ledger c.loop-part.plan) c.in-Task.bytes.now c.in-Task.at (rest c.next.new.self) k (ledger c.enter.new.plan) c.in_err-enter-in-Task.field-0.0 f)
+    let f = subst (λ x. Says (g.G.Load.meaning x) c.in-Task.bytes.now c.in-Task.at (ledger c.loop-part.plan) (ledger c.enter.new.plan) (Err c.in_err-enter.field-0.0)) same c.in_err-enter.ensures.says in
+    let p = err_from_is_err_and c.from_residual-in_err-enter.result c.from_residual-in_err-enter.ensures.1 in
+    rw (p.1, p.2) (task_refused m c.args.image.now (ledger c.args.plan.now) (ledger c.loop-part.plan) c.in-Task.bytes.now c.in-Task.at (rest c.next.new.self) k (ledger c.enter.new.plan) c.in_err-enter.field-0.0 f)
 
-pub returns-in_err-enter-in-Task-clause-kept : goal.returns-in_err-enter-in-Task-clause-kept
-returns-in_err-enter-in-Task-clause-kept g c =
+pub returns-in_err-enter-clause-kept : goal.returns-in_err-enter-clause-kept
+returns-in_err-enter-clause-kept g c =
     let m = g.G.Load.meaning c.args.plan.now.guest in
     let l = ledger c.args.plan.now in
     let r = subst (λ x. Reached (g.G.Load.meaning x) (ledger c.loop-part.plan) (ledger c.enter.new.plan)) c.loop-part.invariant.0 c.enter.ensures.reached in
     kept_again m (g.met.G.Load.lawful c.args.plan.now.guest) l (ledger c.enter.new.plan) (reached_more m l (ledger c.loop-part.plan) (ledger c.enter.new.plan) c.loop-part.invariant.1.reached r)
 
-pub returns-in_err-enter-in-Task-clause-again : goal.returns-in_err-enter-in-Task-clause-again
-returns-in_err-enter-in-Task-clause-again g c = writes_again (g.G.Load.meaning c.args.plan.now.guest) c.args.image.now (λ i. omega (arith, c.type_inv.image i))
+pub returns-in_err-enter-clause-again : goal.returns-in_err-enter-clause-again
+returns-in_err-enter-clause-again g c = writes_again (g.G.Load.meaning c.args.plan.now.guest) c.args.image.now (λ i. omega (arith, c.type_inv.image i))
 
 pub loop-part-preserved : goal.loop-part-preserved
 loop-part-preserved g c = (
   c.loop-part.invariant.0,
-  frame_passed (g.G.Load.meaning c.args.plan.now.guest) c.args.image.now (ledger c.args.plan.now) (ledger c.loop-part.plan) c.in-Frame.field-0.now c.in-Frame.field-1 (rest c.next.new.self)
-      (here g (goal.at.loop-part-preserved g c).In_ok-bytes _ c.in-Frame.is),
+  frame_passed (g.G.Load.meaning c.args.plan.now.guest) c.args.image.now (ledger c.args.plan.now) (ledger c.loop-part.plan) c.in_default.field-0.now c.in_default.field-1 (rest c.next.new.self)
+      (here g (goal.at.loop-part-preserved g c).In_ok-bytes _ c.in_default.is),
 )
 
 pub returns-clause-says : goal.returns-clause-says

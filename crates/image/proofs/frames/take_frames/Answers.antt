@@ -24,9 +24,9 @@ here c p e =
 pub loop-part-preserved-in-Continue-branch-4 : goal.loop-part-preserved-in-Continue-branch-4
 loop-part-preserved-in-Continue-branch-4 c =
     frame_taken c.args.image.now (frames_of c.args.train.now) (frames_of c.loop-part.fresh) c.in-Frame.bytes.now c.in-Frame.at (rest c.next.new.self)
-    (here (goal.at.loop-part-preserved-in-Continue-branch-4 c).In_ok-bytes _ c.in-Frame.is) (frames_of c.add_frame.new.train) c.in_ok-add_frame-in-Frame.ensures
+    (here (goal.at.loop-part-preserved-in-Continue-branch-4 c).In_ok-bytes _ c.in-Frame.is) (frames_of c.add_frame.new.train) c.in_ok-add_frame.ensures
 
 pub loop-part-preserved : goal.loop-part-preserved
 loop-part-preserved c =
-    task_passed c.args.image.now (frames_of c.args.train.now) (frames_of c.loop-part.fresh) c.in-Task.field-0.now c.in-Task.field-1 (rest c.next.new.self)
-    (here (goal.at.loop-part-preserved c).In_ok-bytes _ c.in-Task.is)
+    task_passed c.args.image.now (frames_of c.args.train.now) (frames_of c.loop-part.fresh) c.in_default.field-0.now c.in_default.field-1 (rest c.next.new.self)
+    (here (goal.at.loop-part-preserved c).In_ok-bytes _ c.in_default.is)

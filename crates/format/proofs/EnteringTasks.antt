@@ -1,5 +1,6 @@
 -- Admitting the tasks of an image that has passed the check, record by record, gives what `filled` says.
-use Rattle.std.proofs.Common.{◌≡◌, ℕ, ◌+◌, ◌≤◌, List, [], ◌∷◌, ◌++◌, length, get_or, take, drop, set, Some, None, Ok, Err, Option, Result, sym, refl, ap, ◌∙◌, arith}
+use Rattle.std.proofs.Common.{◌≡◌, ℕ, ◌+◌, List, [], ◌∷◌, ◌++◌, length, get_or, take, drop, set, Some, None, Ok, Err, Option, Result, sym, refl, ap, ◌∙◌, subst, arith}
+use Rattle.std.specs.Result.{MatchResult, IsErrAnd}
 use Rattle.theory.specs.Meaning.{Meaning, Laws}
 use Rattle.loads.specs.declared.refusal.Refusal.{Refusal}
 use Rattle.loads.specs.declared.entry.Entry.{Entry}
@@ -10,17 +11,16 @@ use Rattle.plan.specs.declared.call.Call.{Call}
 use Rattle.plan.specs.declared.call.Call.TheVariants.{Admit}
 use Rattle.plan.specs.Ledger.{admitted, if_ok, next, after}
 use Rattle.format.specs.declared.before.Before.{Before}
-use Rattle.format.specs.declared.fault.ImageFault.{ImageFault}
 use Rattle.format.specs.declared.fault.RecordFault.{RecordFault}
 use Rattle.format.specs.declared.fault.PlanFault.{PlanFault}
-use Rattle.format.specs.declared.fault.PlanFault.TheVariants.{Record, Refused}
+use Rattle.format.specs.declared.fault.PlanFault.TheVariants.{Refused}
 use Rattle.format.specs.Records.{Rec, task_rec, TaskRec, start, field, params_in, task_in}
-use Rattle.format.specs.Decode.{part, decode, Piece, task_piece, frame_piece}
-use Rattle.format.specs.Parts.{outcome, raised}
+use Rattle.format.specs.Decode.{decode, task_piece, frame_piece}
+use Rattle.format.specs.Parts.{outcome, pieces_from}
 use Rattle.format.specs.Fills.{ranged, content_made, one_entered, entered, filled, Reached, KeptAgain}
 use Rattle.plan.proofs.Turns.{after_join, kept_more}
 use Rattle.format.proofs.Fields.{field_1}
-use Rattle.format.proofs.SecondReading.{was_ok, Reads, reads_start, no_fault, at_end, More, more}
+use Rattle.format.proofs.Items.{Item, Placed, all_placed, checks, was_ok, More, more}
 use Rattle.format.proofs.Rising.{task_passes}
 
 abbrev Done : Type 0
@@ -49,43 +49,51 @@ module _ (g : Meaning) (bytes : List ℕ) (at : ℕ) (l m : Channels) (long : le
   answer_is : admitted g l (get_or bytes 18 0) (content entry) ≡ admitted g l (task_in bytes).channel (task_in bytes).content
   answer_is = λ i. admitted g l (channel_is i) (content_is i)
 
-  pub entered_ok : Ok tt ≡ admitted g l (get_or bytes 18 0) (content entry) → ◌≡◌ {A = Result (Unit {0}) PlanFault × Channels} (Ok tt, m) (one_entered g at (task_in bytes) l)
+  entered_ok : Ok tt ≡ admitted g l (get_or bytes 18 0) (content entry) → ◌≡◌ {A = Result (Unit {0}) PlanFault × Channels} (Ok tt, m) (one_entered g at (task_in bytes) l)
   entered_ok a =
       let s : m ≡ set l (task_in bytes).channel (Some (task_in bytes).content) =
       then ∙ ap (λ (r : Result (Unit {0}) Refusal). if_ok r (set l (get_or bytes 18 0) (Some (content entry))) l) (sym a)
       ∙ (λ i. set l (channel_is i) (Some (content_is i))) in
       ap (λ (x : Channels). let d : Done = (Ok tt, x) in d) s ∙ ap (by_answer at (task_in bytes) l) (a ∙ answer_is)
 
-  pub entered_err : (e : Refusal) → Err e ≡ admitted g l (get_or bytes 18 0) (content entry) → ◌≡◌ {A = Result (Unit {0}) PlanFault × Channels} (Err (Refused e at), m) (one_entered g at (task_in bytes) l)
+  entered_err : (e : Refusal) → Err e ≡ admitted g l (get_or bytes 18 0) (content entry) → ◌≡◌ {A = Result (Unit {0}) PlanFault × Channels} (Err (Refused e at), m) (one_entered g at (task_in bytes) l)
   entered_err e a =
       let s : m ≡ l = then ∙ ap (λ (r : Result (Unit {0}) Refusal). if_ok r (set l (get_or bytes 18 0) (Some (content entry))) l) (sym a) in
       ap (λ (x : Channels). let d : Done = (Err (Refused e at), x) in d) s ∙ ap (by_answer at (task_in bytes) l) (a ∙ answer_is)
 
--- A fault of the image that was raised.
-lowered : (x : Result (Option Piece) ImageFault) (f : RecordFault) → Err f ≡ raised x → (e : ImageFault) × (Err e ≡ x)
-lowered (Ok o) f p = let z : ◌≡◌ {A = ℕ} 0 1 = cc in absurd (omega arith)
-lowered (Err e) f p = (e, refl)
-
-same_part : (x : Result (Option Piece) ImageFault) (o : Option Piece) → Ok o ≡ raised x → Ok o ≡ x
-same_part (Ok q) o p = let e : o ≡ q = cc in ap {B = Result (Option Piece) ImageFault} Ok e
-same_part (Err e) o p = cc
+  -- The plan's answer to the task, with the offset where it refuses.
+  pub entered_is : (r : Result (Unit {0}) Refusal) (q : Result (Unit {0}) PlanFault) → r ≡ admitted g l (get_or bytes 18 0) (content entry)
+      → MatchResult r (λ x. q ≡ Ok x) (λ e. IsErrAnd q (λ f. f ≡ Refused e at)) → ◌≡◌ {A = Result (Unit {0}) PlanFault × Channels} (q, m) (one_entered g at (task_in bytes) l)
+  entered_is (Ok x) q a p = ap (λ (y : Result (Unit {0}) PlanFault). let d : Done = (y, m) in d) p ∙ entered_ok a
+  entered_is (Err e) (Ok x) a p = absurd p
+  entered_is (Err e) (Err f) a p = ap (λ (y : PlanFault). let d : Done = (Err y, m) in d) p ∙ entered_err e a
 
 -- Calls after calls.
 pub reached_more : (g : Meaning) (l m n : Channels) → Reached g l m → Reached g m n → Reached g l n
 reached_more g l m n (ks, p) (js, q) = (ks ++ js, q ∙ ap (λ (x : Channels). after g x js) p ∙ sym (after_join g l ks js))
 
 -- What was entered so far, and what is left.
-pub record Entering (g : Meaning) (xs : List ℕ) (at : ℕ) (l₀ l : Channels) : Type 0 where
+pub record Entering (g : Meaning) (xs : List ℕ) (l₀ l : Channels) (is : List Item) : Type 0 where
   pub before : Before
+  pub at : ℕ
   pub left : List Rec
-  pub reads : Reads xs at before left
+  pub reads : checks before is ≡ Ok left
+  pub placed : Placed at is
   pub sum : entered g at left l ≡ filled g (decode xs) l₀
   pub reached : Reached g l₀ l
 
-pub entering_start : (g : Meaning) (xs : List ℕ) (l : Channels) → Ok tt ≡ outcome (decode xs) → Entering g xs 0 l l
+pub entering_start : (g : Meaning) (xs : List ℕ) (l : Channels) → Ok tt ≡ outcome (decode xs) → Entering g xs l l (pieces_from xs (Some 0))
 entering_start g xs l p =
-    let w = was_ok (decode xs) p in
-    record { before = start; left = w.0; reads = reads_start xs w.0 w.1; sum = ap (λ (x : Result (List Rec) RecordFault). filled g x l) (sym w.1); reached = ([], refl) }
+    let w = was_ok xs p in
+    record {
+      before = start;
+      at = 0;
+      left = w.0;
+      reads = w.2;
+      placed = all_placed (length xs) 0 xs;
+      sum = ap (λ (x : Result (List Rec) RecordFault). filled g x l) (sym w.1);
+      reached = ([], refl);
+    }
 
 -- The first step of entering.
 abbrev onward : Meaning → ℕ → List Rec → Done → Done
@@ -103,56 +111,44 @@ entered_task g at rs l t = go (admitted g l t.channel t.content)
 abbrev pub Says : Meaning → List ℕ → ℕ → Channels → Channels → Result (Unit {0}) PlanFault → Type 0
 Says g bytes at l m r = task_refusal (params_in bytes) ≡ None → ◌≡◌ {A = Result (Unit {0}) PlanFault × Channels} (r, m) (one_entered g at (task_in bytes) l)
 
-module _ (g : Meaning) (xs : List ℕ) (at : ℕ) (l₀ l : Channels) (h : at ≤ length xs) (k : Entering g xs at l₀ l) where
-  pub entering_fault : {A : Type 0} (f : RecordFault) → Err f ≡ raised (part at (drop at xs)) → A
-  entering_fault f p = let e = lowered (part at (drop at xs)) f p in no_fault xs at k.before k.left k.reads e.0 e.1
-
-  pub entering_end : Ok None ≡ raised (part at (drop at xs)) → ◌≡◌ {A = Result (Unit {0}) PlanFault × Channels} (Ok tt, l) (filled g (decode xs) l₀)
+module _ (g : Meaning) (xs : List ℕ) (l₀ l : Channels) where
+  pub entering_end : Entering g xs l₀ l [] → ◌≡◌ {A = Result (Unit {0}) PlanFault × Channels} (Ok tt, l) (filled g (decode xs) l₀)
   unfolding entered
-  entering_end p =
-      let e = at_end xs at k.before k.left k.reads (same_part (part at (drop at xs)) None p) in
-      ap (λ (rs : List Rec). entered g at rs l) (sym e) ∙ k.sum
+  entering_end k = let e : [] ≡ k.left = let q = k.reads in cc in ap (λ (rs : List Rec). entered g k.at rs l) e ∙ k.sum
 
-  next_of : (p : Piece) → Ok (Some p) ≡ raised (part at (drop at xs)) → More xs at k.before k.left k.reads p
-  next_of p q = more xs at k.before k.left k.reads h p (same_part (part at (drop at xs)) (Some p) q)
-
-  pub frame_passed : (bytes : List ℕ) (place : ℕ) → Ok (Some (frame_piece bytes place)) ≡ raised (part at (drop at xs)) → (at + 14 ≤ length xs) × Entering g xs (at + 14) l₀ l
+  pub frame_passed : (bytes : List ℕ) (place : ℕ) (is : List Item) → Entering g xs l₀ l (Ok (frame_piece bytes place) ∷ is) → Entering g xs l₀ l is
   unfolding entered
-  frame_passed bytes place q =
-      let w = next_of (frame_piece bytes place) q in
-      (w.within, record { before = _; left = w.rest; reads = w.reads; sum = ap (λ (rs : List Rec). entered g at rs l) (sym w.is) ∙ k.sum; reached = k.reached })
+  frame_passed bytes place is k =
+      let w = more k.before (frame_piece bytes place) is k.left k.reads in
+      record { before = _; at = k.at + 14; left = w.rest; reads = w.good; placed = k.placed.1; sum = ap (λ (rs : List Rec). entered g k.at rs l) (sym w.is_first) ∙ k.sum; reached = k.reached }
 
-  module _ (bytes : List ℕ) (place : ℕ) (q : Ok (Some (task_piece bytes place)) ≡ raised (part at (drop at xs))) where
-    pub task_whole : length bytes ≡ 37
-    task_whole = (next_of (task_piece bytes place) q).whole
+  module _ (bytes : List ℕ) (place : ℕ) (is : List Item) (k : Entering g xs l₀ l (Ok (task_piece bytes place) ∷ is)) where
+    next_of : More k.before (task_piece bytes place) is k.left
+    next_of = more k.before (task_piece bytes place) is k.left k.reads
 
-    ranges : task_refusal (params_in bytes) ≡ None
-    ranges = (task_passes k.before at (task_in bytes) (next_of (task_piece bytes place) q).passes).ranged
-
-    step_is : (d : Done) → (task_refusal (params_in bytes) ≡ None → d ≡ one_entered g at (task_in bytes) l)
-        → onward g (at + 37) (next_of (task_piece bytes place) q).rest d ≡ filled g (decode xs) l₀
+    step_is : (d : Done) → (task_refusal (params_in bytes) ≡ None → d ≡ one_entered g place (task_in bytes) l)
+        → onward g (place + 37) next_of.rest d ≡ filled g (decode xs) l₀
     step_is d f =
-        let w = next_of (task_piece bytes place) q in
-        ap (onward g (at + 37) w.rest) (f ranges) ∙ entered_task g at w.rest l (task_in bytes)
-        ∙ ap (λ (rs : List Rec). entered g at rs l) (sym w.is) ∙ k.sum
+        let w = next_of in
+        ap (onward g (place + 37) w.rest) (f (task_passes k.before place (task_in bytes) w.passes).ranged) ∙ entered_task g place w.rest l (task_in bytes)
+        ∙ (λ i. entered g (k.placed.0 i) (sym w.is_first i) l) ∙ k.sum
 
-    pub task_refused : (m : Channels) (e : PlanFault) → Says g bytes at l m (Err e)
+    pub task_refused : (m : Channels) (e : PlanFault) → Says g bytes place l m (Err e)
         → ◌≡◌ {A = Result (Unit {0}) PlanFault × Channels} (Err e, m) (filled g (decode xs) l₀)
     task_refused m e f = step_is (Err e, m) f
 
-    pub task_entered : (m : Channels) → Says g bytes at l m (Ok tt) → Reached g l m
-        → (at + 37 ≤ length xs) × Entering g xs (at + 37) l₀ m
+    pub task_entered : (m : Channels) → Says g bytes place l m (Ok tt) → Reached g l m → Entering g xs l₀ m is
     task_entered m f r =
-        let w = next_of (task_piece bytes place) q in
-        (w.within, record { before = _; left = w.rest; reads = w.reads; sum = step_is (Ok tt, m) f; reached = reached_more g l₀ l m k.reached r })
-
--- An image that is not read leaves the plan as it was.
-pub not_read : (g : Meaning) (xs : List ℕ) (l : Channels) (e : RecordFault) → Err e ≡ outcome (decode xs) → ◌≡◌ {A = Result (Unit {0}) PlanFault × Channels} (Err (Record e), l) (filled g (decode xs) l)
-not_read g xs l e p = go (decode xs) p
-  where
-    go : (x : Result (List Rec) RecordFault) → Err e ≡ outcome x → ◌≡◌ {A = Result (Unit {0}) PlanFault × Channels} (Err (Record e), l) (filled g x l)
-    go (Ok rs) q = let z : ◌≡◌ {A = ℕ} 0 1 = cc in absurd (omega arith)
-    go (Err f) q = let r : e ≡ f = cc in ap (λ (y : RecordFault). let d : Done = (Err (Record y), l) in d) r
+        let w = next_of in
+        record {
+          before = _;
+          at = place + 37;
+          left = w.rest;
+          reads = w.good;
+          placed = subst (λ (n : ℕ). Placed (n + 37) is) (sym k.placed.0) k.placed.1;
+          sum = step_is (Ok tt, m) f;
+          reached = reached_more g l₀ l m k.reached r;
+        }
 
 -- The promise stands after it.
 pub kept_again : (g : Meaning) → Laws g → (l₀ l : Channels) → Reached g l₀ l → (before : List Call) → l₀ ≡ after g blank before → KeptAgain g before l

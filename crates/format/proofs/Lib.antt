@@ -3,9 +3,7 @@ pub mod Fields
 pub mod RecordBytes
 pub mod Front
 pub mod RoundTrip
-pub mod Passes
-pub mod Checks
-pub mod SecondReading
+pub mod Items
 pub mod TakingFrames
 pub mod Rising
 pub mod EnteringTasks

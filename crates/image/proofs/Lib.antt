@@ -1,2 +1,3 @@
-pub mod OneCall
+pub mod MapErr
 pub mod Judging
+pub mod Writing

@@ -1,19 +1,19 @@
-ghost use Rattle.std.specs.Prelude.{◌≡◌, length};
+ghost use Rattle.std.specs.Prelude.{◌≡◌};
 ghost use Rattle.format.specs.Records.{task_rec, frame_rec, task_in, frame_in};
 ghost use Rattle.format.specs.Decode.{decode, passed, rec_in};
-ghost use Rattle.format.specs.Parts.{piece, offset, Whole, outcome};
+ghost use Rattle.format.specs.Parts.{piece, offset, outcome};
 
-use crate::read::{made_frame, next_part, size_of};
+use crate::parts::Parts;
+use crate::read::made_frame;
 use crate::read_task::made_task;
 use format::before::Before;
-use format::fault::{ImageFault, RecordFault};
-use format::part::Part;
+use format::fault::RecordFault;
+use format::part::{FRAME, Part, TASK};
 use loads::refusal::Refusal;
 use plan::label::is_label;
 
 /// The checks on the record of a task, after what came before it.
-fn pass_task(before: Before, bytes: &[u8], at: usize) -> Result<Before, RecordFault>
-    requires { length bytes.now ≡ 37 }
+fn pass_task(before: Before, bytes: &[u8; TASK], at: usize) -> Result<Before, RecordFault>
     ensures { result ≡ passed before at (task_rec (task_in bytes.now)) }
 {
     if !is_label(&bytes[2..18]) {
@@ -26,35 +26,29 @@ fn pass_task(before: Before, bytes: &[u8], at: usize) -> Result<Before, RecordFa
     if channel < before.least || before.frames > 0 {
         return Err(RecordFault::Refused(Refusal::OutOfOrder, at));
     }
-    match made_task(bytes) {
-        Ok(_) => Ok(Before {
-            least: channel + 1,
-            frames: before.frames,
-        }),
-        Err(e) => Err(RecordFault::Refused(e, at)),
-    }
+    made_task(bytes).map_err(|e| RecordFault::Refused(e, at))?;
+    Ok(Before {
+        least: channel + 1,
+        ..before
+    })
 }
 
 /// The checks on the record of a frame, after what came before it.
-fn pass_frame(before: Before, bytes: &[u8], at: usize) -> Result<Before, RecordFault>
-    requires { length bytes.now ≡ 14 }
+fn pass_frame(before: Before, bytes: &[u8; FRAME], at: usize) -> Result<Before, RecordFault>
     ensures { result ≡ passed before at (frame_rec (frame_in bytes.now)) }
 {
     if before.frames >= 16 {
         return Err(RecordFault::Refused(Refusal::TrainFull, at));
     }
-    match made_frame(bytes) {
-        Ok(_) => Ok(Before {
-            least: before.least,
-            frames: before.frames + 1,
-        }),
-        Err(e) => Err(RecordFault::Refused(e, at)),
-    }
+    made_frame(bytes).map_err(|e| RecordFault::Refused(e, at))?;
+    Ok(Before {
+        frames: before.frames + 1,
+        ..before
+    })
 }
 
 /// The checks on a record, after what came before it.
 fn pass(before: Before, part: Part) -> Result<Before, RecordFault>
-    requires { Whole (piece part) }
     ensures { result ≡ passed before (offset (piece part.entry)) (rec_in (piece part.entry)) }
 {
     match part {
@@ -67,23 +61,12 @@ fn pass(before: Before, part: Part) -> Result<Before, RecordFault>
 pub fn check(image: &[u8]) -> Result<(), RecordFault>
     ensures { result ≡ outcome (decode image.now) }
 {
-    let mut at = 0;
     let mut before = Before {
         least: 0,
         frames: 0,
     };
-    loop {
-        match next_part(image, at)? {
-            Some(part) => {
-                before = pass(before, part)?;
-                at += size_of(part);
-            }
-            None => {
-                if at + 2 < image.len() {
-                    return Err(RecordFault::Image(ImageFault::Trailing(at + 2)));
-                }
-                return Ok(());
-            }
-        }
+    for part in Parts::new(image) {
+        before = pass(before, part?)?;
     }
+    Ok(())
 }

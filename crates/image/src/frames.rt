@@ -6,25 +6,19 @@ ghost use Rattle.format.specs.Decode.{decode};
 ghost use Rattle.format.specs.Fills.{taken, FramesThen};
 
 use crate::check::check;
-use crate::read::{made_frame, next_part, size_of};
+use crate::parts::Parts;
+use crate::read::made_frame;
 use format::fault::RecordFault;
-use format::part::Part;
+use format::part::{FRAME, Part};
 use loads::train::RampTrain;
 
 /// Adds the frame of a record that has passed its checks at the end of a train with room for it.
-fn add_frame(train: &mut RampTrain, bytes: &[u8], at: usize) -> Result<(), RecordFault>
-    requires { length bytes.now ≡ 14 }
+fn add_frame(train: &mut RampTrain, bytes: &[u8; FRAME], at: usize) -> Result<(), RecordFault>
     ensures { frame_refusal (frame_in bytes.now) ≡ None → length (frames_of train.old) < 16
         → FramesThen result (frames_of train.new) (frames_of train.old ++ (frame_in bytes.now ∷ [])) }
 {
-    let added = match made_frame(bytes) {
-        Ok(frame) => train.push(frame),
-        Err(e) => Err(e),
-    };
-    match added {
-        Ok(()) => Ok(()),
-        Err(e) => Err(RecordFault::Refused(e, at)),
-    }
+    let frame = made_frame(bytes).map_err(|e| RecordFault::Refused(e, at))?;
+    train.push(frame).map_err(|e| RecordFault::Refused(e, at))
 }
 
 /// Takes the frames of an image into a train in place of what it held, or refuses and leaves it as it was. The whole
@@ -34,13 +28,10 @@ pub fn take_frames(train: &mut RampTrain, image: &[u8]) -> Result<(), RecordFaul
 {
     check(image)?;
     let mut fresh = RampTrain::new();
-    let mut at = 0;
-    while let Some(part) = next_part(image, at)? {
-        match part {
-            Part::Frame(bytes, _) => add_frame(&mut fresh, bytes, at)?,
-            Part::Task(_, _) => {}
+    for part in Parts::new(image) {
+        if let Part::Frame(bytes, at) = part? {
+            add_frame(&mut fresh, bytes, at)?;
         }
-        at += size_of(part);
     }
     *train = fresh;
     Ok(())

@@ -6,6 +6,7 @@ pub mod check;
 pub mod fill;
 pub mod frames;
 pub mod outcome;
+pub mod parts;
 pub mod read;
 mod read_task;
 mod tasks;

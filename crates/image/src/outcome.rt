@@ -1,6 +1,8 @@
 ghost use Rattle.std.specs.Prelude.{◌≡◌, Some};
-ghost use Rattle.image.specs.Verdict.{code_of, line};
+ghost use Rattle.image.specs.Verdict.{told, code_of, line};
 
+use format::fault::PlanFault;
+use loads::refusal::Refusal;
 use std::fmt;
 
 /// What is answered on an image.
@@ -8,21 +10,33 @@ use std::fmt;
 pub enum Outcome {
     /// The plan is accepted: its busy period.
     Yes(u64),
-    /// The plan is late: mark and claim, and the offset of the record refused.
-    Late((u64, u64), usize),
-    /// Any other refusal: its number, and the offset.
-    Refused(u32, usize),
+    /// The image or a record of it is refused: why, and the offset.
+    Refused(Refusal, usize),
 }
 
 impl Outcome {
-    /// The number that a host gets: 0 for yes, 11 for late, else the refusal's number.
+    /// The number that a host gets: 0 for yes, else the refusal's number, which is 11 for late.
     pub fn code(self) -> u32
         ensures { result ≡ code_of self }
     {
         match self {
             Outcome::Yes(_) => 0,
-            Outcome::Late(_, _) => 11,
-            Outcome::Refused(number, _) => number,
+            Outcome::Refused(refusal, _) => u32::from(refusal),
+        }
+    }
+}
+
+/// The outcome of a busy period or of a fault.
+impl From<Result<u64, PlanFault>> for Outcome {
+    ghost from_gives = { λ r o. o ≡ told r };
+
+    fn from(r: Result<u64, PlanFault>) -> Outcome {
+        match r {
+            Ok(busy) => Outcome::Yes(busy),
+            Err(fault) => {
+                let (refusal, at) = fault.into();
+                Outcome::Refused(refusal, at)
+            }
         }
     }
 }
@@ -34,8 +48,13 @@ impl fmt::Display for Outcome {
     fn fmt<W: fmt::Write>(&self, f: &mut fmt::Formatter<W>) -> fmt::Result {
         match self {
             Outcome::Yes(busy) => writeln!(f, "yes {busy}"),
-            Outcome::Late((mark, claim), offset) => writeln!(f, "late {mark} {claim} {offset}"),
-            Outcome::Refused(number, offset) => writeln!(f, "refused {number} {offset}"),
+            Outcome::Refused(Refusal::Late((mark, claim)), offset) => {
+                writeln!(f, "late {mark} {claim} {offset}")
+            }
+            Outcome::Refused(refusal, offset) => {
+                let number = u32::from(*refusal);
+                writeln!(f, "refused {number} {offset}")
+            }
         }
     }
 }

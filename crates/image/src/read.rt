@@ -1,51 +1,28 @@
 ghost use Rattle.std.specs.Prelude.{◌≡◌, ◌+◌, ◌≤◌, length, take, drop};
 ghost use Rattle.loads.specs.Making.{made_frame, frame_made};
-ghost use Rattle.format.specs.Records.{field, frame_in, size};
+ghost use Rattle.format.specs.Records.{field as number_in, frame_in, size};
 ghost use Rattle.format.specs.Decode.{part, rec_in};
-ghost use Rattle.format.specs.Parts.{piece, shown, shown_record, raised};
+ghost use Rattle.format.specs.Parts.{piece, shown};
 
-use format::fault::{ImageFault, RecordFault};
-use format::part::Part;
+use format::fault::ImageFault;
+use format::part::{FRAME, Part, TASK};
 use loads::frame::Frame;
 use loads::refusal::Refusal;
 
-/// The length of the record of a task, and of a frame.
-pub(crate) const TASK: usize = 37;
-
-const FRAME: usize = 14;
-
 /// The part at `at`, or nothing at the end mark.
+#[tactic(auto, unfolding(format::specs::Decode::part))]
 pub fn next_part<'a>(image: &'a [u8], at: usize) -> Result<Option<Part<'a>>, ImageFault>
     ensures { shown result ≡ part at (drop at image.now) }
 {
-    if at >= image.len() || image.len() - at < 2 {
-        return Err(ImageFault::Cut(at));
+    let cut = ImageFault::Cut(at);
+    let rest = image.get(at..).ok_or(cut)?;
+    match rest {
+        [b'T', b'K', ..] => Ok(Some(Part::Task(rest.first_chunk().ok_or(cut)?, at))),
+        [b'R', b'F', ..] => Ok(Some(Part::Frame(rest.first_chunk().ok_or(cut)?, at))),
+        [b'E', b'N', ..] => Ok(None),
+        [_, _, ..] => Err(ImageFault::UnknownMark(at)),
+        _ => Err(cut),
     }
-    let a = image[at];
-    let b = image[at + 1];
-    if a == 0x54 && b == 0x4B {
-        if image.len() - at < TASK {
-            return Err(ImageFault::Cut(at));
-        }
-        return Ok(Some(Part::Task(&image[at..at + TASK], at)));
-    }
-    if a == 0x52 && b == 0x46 {
-        if image.len() - at < FRAME {
-            return Err(ImageFault::Cut(at));
-        }
-        return Ok(Some(Part::Frame(&image[at..at + FRAME], at)));
-    }
-    if a == 0x45 && b == 0x4E {
-        return Ok(None);
-    }
-    Err(ImageFault::UnknownMark(at))
-}
-
-/// The part at `at`, with an image's fault carried whole in a record's.
-pub fn next_record<'a>(image: &'a [u8], at: usize) -> Result<Option<Part<'a>>, RecordFault>
-    ensures { shown_record result ≡ raised (part at (drop at image.now)) }
-{
-    Ok(next_part(image, at)?)
 }
 
 /// How many bytes the record takes, its mark with it.
@@ -58,36 +35,27 @@ pub fn size_of(part: Part) -> usize
     }
 }
 
+/// The N bytes from place `i` on.
+pub(crate) fn field<const N: usize>(bytes: &[u8], i: usize) -> [u8; N]
+    requires { i + N ≤ length bytes.now }
+    ensures { result ≡ take N (drop i bytes.now) }
+{
+    let mut field = [0; N];
+    field.copy_from_slice(&bytes[i..i + N]);
+    field
+}
+
 /// The number in the four bytes from place `i` on.
-pub(crate) fn number4(bytes: &[u8], i: usize) -> u32
+pub(crate) fn number(bytes: &[u8], i: usize) -> u32
     requires { i + 4 ≤ length bytes.now }
-    ensures { result ≡ field i 4 bytes.now }
+    ensures { result ≡ number_in i 4 bytes.now }
 {
-    u32::from_be_bytes([bytes[i], bytes[i + 1], bytes[i + 2], bytes[i + 3]])
-}
-
-/// The number in the two bytes from place `i` on.
-pub(crate) fn number2(bytes: &[u8], i: usize) -> u16
-    requires { i + 2 ≤ length bytes.now }
-    ensures { result ≡ field i 2 bytes.now }
-{
-    u16::from_be_bytes([bytes[i], bytes[i + 1]])
-}
-
-/// The label in the record of a task.
-pub(crate) fn label_in(bytes: &[u8]) -> [u8; 16]
-    requires { length bytes.now ≡ 37 }
-    ensures { result ≡ take 16 (drop 2 bytes.now) }
-{
-    let mut label = [0; 16];
-    label.copy_from_slice(&bytes[2..18]);
-    label
+    u32::from_be_bytes(field(bytes, i))
 }
 
 /// The frame in a record, or why it is not made.
-pub(crate) fn made_frame(bytes: &[u8]) -> Result<Frame, Refusal>
-    requires { length bytes.now ≡ 14 }
+pub(crate) fn made_frame(bytes: &[u8; FRAME]) -> Result<Frame, Refusal>
     ensures { frame_made result ≡ made_frame (frame_in bytes.now) }
 {
-    Frame::new(number4(bytes, 2), number4(bytes, 6), number4(bytes, 10))
+    Frame::new(number(bytes, 2), number(bytes, 6), number(bytes, 10))
 }

@@ -1,21 +1,21 @@
-ghost use Rattle.std.specs.Prelude.{◌≡◌, length};
+ghost use Rattle.std.specs.Prelude.{◌≡◌};
 ghost use Rattle.loads.specs.Making.{made_task, task_made};
 ghost use Rattle.format.specs.Records.{params_in};
 
-use crate::read::{number2, number4};
+use crate::read::{field, number};
+use format::part::TASK;
 use loads::refusal::Refusal;
 use loads::task::Task;
 
 /// The task in a record, or why it is not made.
-pub(crate) fn made_task(bytes: &[u8]) -> Result<Task, Refusal>
-    requires { length bytes.now ≡ 37 }
+pub(crate) fn made_task(bytes: &[u8; TASK]) -> Result<Task, Refusal>
     ensures { task_made result ≡ made_task (params_in bytes.now) }
 {
     Task::new(
-        number4(bytes, 19),
-        number4(bytes, 23),
-        number4(bytes, 27),
-        number4(bytes, 31),
-        u32::from(number2(bytes, 35)),
+        number(bytes, 19),
+        number(bytes, 23),
+        number(bytes, 27),
+        number(bytes, 31),
+        u32::from(u16::from_be_bytes(field(bytes, 35))),
     )
 }

@@ -5,14 +5,13 @@ ghost use Rattle.format.specs.Records.{Rec, params_in};
 ghost use Rattle.format.specs.Decode.{decode, tasks_in};
 ghost use Rattle.format.specs.Prefixes.{params};
 
-use crate::read::{TASK, next_part};
+use crate::parts::Parts;
 use crate::read_task::made_task;
-use format::part::Part;
+use format::part::{Part, TASK};
 use loads::list::TaskList;
 
 /// Adds the task of a record that has passed its checks at the end of a list with room for it.
-fn add_task(tasks: &mut TaskList, bytes: &[u8])
-    requires { length bytes.now ≡ 37 }
+fn add_task(tasks: &mut TaskList, bytes: &[u8; TASK])
     ensures { task_refusal (params_in bytes.now) ≡ None → length (tasks_of tasks.old) < 64
         → tasks_of tasks.new ≡ tasks_of tasks.old ++ (params_in bytes.now ∷ []) }
 {
@@ -26,17 +25,13 @@ pub(crate) fn add_tasks(tasks: &mut TaskList, image: &[u8])
     ensures { tasks_of tasks.old ≡ [] → (rs : List Rec) → decode image.now ≡ Ok rs
         → tasks_of tasks.new ≡ params (tasks_in rs) }
 {
-    let mut at = 0;
-    while let Ok(next) = next_part(image, at) {
-        match next {
-            Some(part) => match part {
-                Part::Task(bytes, _) => {
-                    add_task(tasks, bytes);
-                    at += TASK;
-                }
-                Part::Frame(_, _) => return,
-            },
-            None => return,
+    for part in Parts::new(image) {
+        let Ok(part) = part else {
+            return;
+        };
+        match part {
+            Part::Task(bytes, _) => add_task(tasks, bytes),
+            Part::Frame(_, _) => return,
         }
     }
 }

@@ -6,19 +6,17 @@ ghost use Rattle.loads.specs.Lists.{tasks_of};
 ghost use Rattle.loads.specs.Train.{frames_of, train_meaning};
 ghost use Rattle.image.specs.declared.outcome.Outcome.TheVariants.{Yes as yes};
 ghost use Rattle.format.specs.Prefixes.{weigh, first_refused};
-ghost use Rattle.image.specs.Verdict.{one_by_one, judged, by_fault, told, code_of, YesMeans};
+ghost use Rattle.image.specs.Verdict.{one_by_one, judged, told, code_of, YesMeans};
 
 use crate::frames::take_frames;
 use crate::outcome::Outcome;
-use crate::read::TASK;
 use crate::tasks::add_tasks;
 use format::fault::PlanFault;
+use format::part::TASK;
 use judge::walk::judge;
 use loads::list::TaskList;
-use loads::refusal::Refusal;
 use loads::train::RampTrain;
 use plan::beside::Beside;
-use plan::plan::calls::refusal;
 use theory::verdict::Unfit;
 
 /// How many bytes of an image the entry for C looks at: the first 4,096. The other calls look at all bytes given.
@@ -31,19 +29,18 @@ fn first_refused(plan: &Beside<TaskList, RampTrain>, unfit: Unfit) -> (Unfit, us
     requires refused { Err unfit ≡ weigh (train_meaning (frames_of plan.now.second)) (tasks_of plan.now.first) }
     ensures { first_refused (train_meaning (frames_of plan.now.second)) 0 [] (tasks_of plan.now.first) ≡ Some result }
 {
-    let all = plan.first.tasks();
+    let (_, earlier) = plan.first.tasks().split_last().unwrap();
     let mut part = Beside {
         first: TaskList::new(),
         second: plan.second,
     };
-    for i in 0..all.len() - 1 {
-        let _ = part.first.push(all[i]);
-        match judge(&part) {
-            Ok(_) => {}
-            Err(early) => return (early, TASK * i),
+    for (i, task) in earlier.iter().enumerate() {
+        let _ = part.first.push(*task);
+        if let Err(early) = judge(&part) {
+            return (early, TASK * i);
         }
     }
-    (unfit, TASK * (all.len() - 1))
+    (unfit, TASK * earlier.len())
 }
 
 /// The busy period of the tasks beside the train, or why and where one is refused. Tasks that are accepted together are
@@ -57,18 +54,8 @@ fn judge_tasks(plan: &Beside<TaskList, RampTrain>) -> Result<u64, PlanFault>
         Ok(busy) => Ok(busy),
         Err(unfit) => {
             let (early, at) = first_refused(plan, unfit);
-            Err(PlanFault::Refused(refusal(early), at))
+            Err(PlanFault::Refused(early.into(), at))
         }
-    }
-}
-
-/// The outcome of a refusal at an offset.
-fn refused(refusal: Refusal, at: usize) -> Outcome
-    ensures { result ≡ by_fault (refusal, at) }
-{
-    match refusal.late() {
-        Some(late) => Outcome::Late(late, at),
-        None => Outcome::Refused(refusal.number(), at),
     }
 }
 
@@ -85,13 +72,10 @@ pub fn judge_image(image: &[u8]) -> Result<u64, PlanFault>
     take_frames(&mut plan.second, image)?;
     add_tasks(&mut plan.first, image);
     let count = plan.first.tasks().len();
-    match judge(&plan.second) {
-        Ok(busy) => {
-            if count == 0 {
-                return Ok(busy);
-            }
-        }
-        Err(unfit) => return Err(PlanFault::Refused(refusal(unfit), TASK * count)),
+    let first_frame = TASK * count;
+    let busy = judge(&plan.second).map_err(|unfit| PlanFault::Refused(unfit.into(), first_frame))?;
+    if count == 0 {
+        return Ok(busy);
     }
     judge_tasks(&plan)
 }
@@ -101,13 +85,7 @@ pub fn verdict(image: &[u8]) -> Outcome
     ensures says { result ≡ told (judged image.now) }
     ensures safe { (w : ℕ) → result ≡ yes w → YesMeans image.now w }
 {
-    match judge_image(image) {
-        Ok(busy) => Outcome::Yes(busy),
-        Err(fault) => {
-            let (refusal, at) = fault.told();
-            refused(refusal, at)
-        }
-    }
+    judge_image(image).into()
 }
 
 /// The verdict of the first 4,096 bytes of an image as one number, for a host in C: 0 for yes, 11 for late, else the
@@ -115,10 +93,5 @@ pub fn verdict(image: &[u8]) -> Outcome
 pub fn lukwaizo_check(image: &[u8]) -> u32
     ensures { result ≡ code_of (told (judged (take 4096 image.now))) }
 {
-    let seen = if image.len() > LIMIT {
-        &image[0..LIMIT]
-    } else {
-        image
-    };
-    verdict(seen).code()
+    verdict(&image[..image.len().min(LIMIT)]).code()
 }

@@ -4,12 +4,12 @@ ghost use Rattle.format.specs.Faults.{image_fault, record_fault, plan_fault};
 use super::{ImageFault, PlanFault, RecordFault};
 use loads::refusal::Refusal;
 
-impl ImageFault {
-    /// The refusal and the byte offset.
-    pub fn told(self) -> (Refusal, usize)
-        ensures { result ≡ image_fault self }
-    {
-        match self {
+/// The refusal and the byte offset.
+impl From<ImageFault> for (Refusal, usize) {
+    ghost from_gives = { λ e r. r ≡ image_fault e };
+
+    fn from(e: ImageFault) -> (Refusal, usize) {
+        match e {
             ImageFault::UnknownMark(at) => (Refusal::UnknownMark, at),
             ImageFault::Cut(at) => (Refusal::Cut, at),
             ImageFault::Trailing(at) => (Refusal::Trailing, at),
@@ -17,25 +17,25 @@ impl ImageFault {
     }
 }
 
-impl RecordFault {
-    /// The refusal and the byte offset.
-    pub fn told(self) -> (Refusal, usize)
-        ensures { result ≡ record_fault self }
-    {
-        match self {
-            RecordFault::Image(e) => e.told(),
+/// The refusal and the byte offset.
+impl From<RecordFault> for (Refusal, usize) {
+    ghost from_gives = { λ e r. r ≡ record_fault e };
+
+    fn from(e: RecordFault) -> (Refusal, usize) {
+        match e {
+            RecordFault::Image(e) => e.into(),
             RecordFault::Refused(r, at) => (r, at),
         }
     }
 }
 
-impl PlanFault {
-    /// The refusal and the byte offset.
-    pub fn told(self) -> (Refusal, usize)
-        ensures { result ≡ plan_fault self }
-    {
-        match self {
-            PlanFault::Record(e) => e.told(),
+/// The refusal and the byte offset.
+impl From<PlanFault> for (Refusal, usize) {
+    ghost from_gives = { λ e r. r ≡ plan_fault e };
+
+    fn from(e: PlanFault) -> (Refusal, usize) {
+        match e {
+            PlanFault::Record(e) => e.into(),
             PlanFault::Refused(r, at) => (r, at),
         }
     }

@@ -1,12 +1,10 @@
-use Rattle.std.proofs.Common.{◌-◌, ◌≤◌, length}
+use Rattle.std.proofs.Common.{◌≡◌}
 use Rattle.format.specs.Decode.{decode}
 use Rattle.format.specs.Parts.{outcome}
-use Rattle.format.proofs.Checks.{Left}
+use Rattle.format.proofs.Items.{checks}
+use Rattle.image.specs.Parts.{rest}
 use Rattle.image.proofs.check.check.Given as goal
 
--- The fault found from this place on is that of the whole image.
+-- The fault found from here on is that of the whole image.
 abbrev pub invariant-loop-part : goal.invariant-loop-part
-invariant-loop-part l = (l.at ≤ length l.image) × Left l.image l.before l.at (outcome (decode l.image))
-
-abbrev pub decreases-loop-part : goal.decreases-loop-part
-decreases-loop-part l = length l.image - l.at
+invariant-loop-part l = outcome (checks l.before (rest l.part-iterator)) ≡ outcome (decode l.image)

@@ -1,38 +1,40 @@
-use Rattle.std.proofs.Common.{◌≡◌, drop, Some, Ok, Option, ap, ◌∙◌, subst, arith}
+-- The loop over the parts collects the tasks, which come first.
+use Rattle.std.proofs.Common.{◌≡◌, ◌∷◌, Ok, Result, sym, ap, ◌∙◌, subst}
 use Rattle.loads.specs.Lists.{tasks_of}
+use Rattle.format.specs.declared.fault.ImageFault.{ImageFault}
 use Rattle.format.specs.declared.part.Part.{Part}
-use Rattle.format.specs.Decode.{part}
-use Rattle.format.specs.Parts.{shown}
-use Rattle.format.proofs.CollectingTasks.{collect_start, task_long, task_within, task_collected, at_frame, at_last, at_fault}
+use Rattle.format.specs.Parts.{seen}
+use Rattle.format.proofs.CollectingTasks.{Collects, collect_start, task_collected, at_end, at_fault, at_frame}
+use Rattle.image.specs.Parts.{rest}
 use Rattle.image.proofs.tasks.add_tasks.Goals as goal
+use Rattle.image.proofs.tasks.add_tasks.Goals.{In-Some}
 
-pub loop-next-init : goal.loop-next-init
-loop-next-init c = collect_start c.args.image.now (tasks_of c.args.tasks.now)
+pub loop-part-init : goal.loop-part-init
+loop-part-init c =
+    subst (Collects c.args.image.now (tasks_of c.args.tasks.now) (tasks_of c.args.tasks.now)) (sym (ap rest c.into_iter-part-iterator.ensures.into_iter_gives ∙ c.new-part-items.ensures))
+    (collect_start c.args.image.now (tasks_of c.args.tasks.now))
 
-pub add_task-requires : goal.add_task-requires
-add_task-requires c =
-    let e = subst (λ (o : Option Part). shown (Ok o) ≡ part c.loop-next.at (drop c.loop-next.at c.args.image.now)) (c.in-Some.is ∙ ap {B = Option Part} Some c.in-Task.is) c.in-Ok.ensures in
-    task_long c.args.image.now c.loop-next.at (tasks_of c.args.tasks.now) (tasks_of c.loop-next.tasks) c.loop-next.invariant c.in-Task.bytes.now c.in-Task.field-1 e
+-- The invariant, with the item of this turn.
+here : (c : In-Some) (x : Result Part ImageFault) → c.in-Some.part ≡ x → Collects c.args.image.now (tasks_of c.args.tasks.now) (tasks_of c.loop-part.tasks) (seen x ∷ rest c.next.new.self)
+here c x e =
+    subst (Collects c.args.image.now (tasks_of c.args.tasks.now) (tasks_of c.loop-part.tasks))
+    (c.in-Some.ensures.steps ∙ ap (λ y. seen y ∷ rest c.next.new.self) e) c.loop-part.invariant
 
-pub loop-next-smaller : goal.loop-next-smaller
-loop-next-smaller c =
-    let e = subst (λ (o : Option Part). shown (Ok o) ≡ part c.loop-next.at (drop c.loop-next.at c.args.image.now)) (c.in-Some.is ∙ ap {B = Option Part} Some c.in-Task.is) c.in-Ok.ensures in
-    omega (arith, task_within c.args.image.now c.loop-next.at (tasks_of c.args.tasks.now) (tasks_of c.loop-next.tasks) c.loop-next.invariant c.in-Task.bytes.now c.in-Task.field-1 e)
-
-pub loop-next-preserved : goal.loop-next-preserved
-loop-next-preserved c =
-    let e = subst (λ (o : Option Part). shown (Ok o) ≡ part c.loop-next.at (drop c.loop-next.at c.args.image.now)) (c.in-Some.is ∙ ap {B = Option Part} Some c.in-Task.is) c.in-Ok.ensures in
-    task_collected c.args.image.now c.loop-next.at (tasks_of c.args.tasks.now) (tasks_of c.loop-next.tasks) c.loop-next.invariant c.in-Task.bytes.now c.in-Task.field-1 e (tasks_of c.add_task.new.tasks) c.add_task.ensures
+pub loop-part-preserved : goal.loop-part-preserved
+loop-part-preserved c =
+    task_collected c.args.image.now (tasks_of c.args.tasks.now) (tasks_of c.loop-part.tasks) c.in-Task.bytes.now c.in-Task.field-1 (rest c.next.new.self) (tasks_of c.add_task.new.tasks)
+    (here (goal.at.loop-part-preserved c).In-Some _ (c.in-Ok.is ∙ ap {B = Result Part ImageFault} Ok c.in-Task.is)) c.add_task.ensures
 
 pub returns-in-Frame : goal.returns-in-Frame
 returns-in-Frame c =
-    let e = subst (λ (o : Option Part). shown (Ok o) ≡ part c.loop-next.at (drop c.loop-next.at c.args.image.now)) (c.in-Some.is ∙ ap {B = Option Part} Some c.in-Frame.is) c.in-Ok.ensures in
-    at_frame c.args.image.now c.loop-next.at (tasks_of c.args.tasks.now) (tasks_of c.loop-next.tasks) c.loop-next.invariant c.in-Frame.field-0.now c.in-Frame.field-1 e
+    at_frame c.args.image.now (tasks_of c.args.tasks.now) (tasks_of c.loop-part.tasks) c.in-Frame.field-0.now c.in-Frame.field-1 (rest c.next.new.self)
+    (here (goal.at.returns-in-Frame c).In-Some _ (c.in-Ok.is ∙ ap {B = Result Part ImageFault} Ok c.in-Frame.is))
 
-pub returns-in-None : goal.returns-in-None
-returns-in-None c =
-    let e = subst (λ (o : Option Part). shown (Ok o) ≡ part c.loop-next.at (drop c.loop-next.at c.args.image.now)) c.in-None.is c.in-Ok.ensures in
-    at_last c.args.image.now c.loop-next.at (tasks_of c.args.tasks.now) (tasks_of c.loop-next.tasks) c.loop-next.invariant e
+pub returns-in_default : goal.returns-in_default
+returns-in_default c =
+    at_fault c.args.image.now (tasks_of c.args.tasks.now) (tasks_of c.loop-part.tasks) c.in_default.field-0 (rest c.next.new.self) (here (goal.at.returns-in_default c).In-Some _ c.in_default.is)
 
 pub returns : goal.returns
-returns c = at_fault c.args.image.now c.loop-next.at (tasks_of c.args.tasks.now) (tasks_of c.loop-next.tasks) c.loop-next.invariant _ c.in_default.ensures
+returns c =
+    at_end c.args.image.now (tasks_of c.args.tasks.now) (tasks_of c.loop-part.tasks)
+    (subst (Collects c.args.image.now (tasks_of c.args.tasks.now) (tasks_of c.loop-part.tasks)) c.in-None.ensures.steps.0 c.loop-part.invariant)

@@ -1,34 +1,31 @@
--- The loop over the channels counts 37 bytes for each filled one.
-use Rattle.std.proofs.Common.{◌+◌, ◌<◌, length, drop, ap, arith, length-append}
-use Rattle.std.proofs.lemmas.List.{at_drop_all}
-use Rattle.loads.specs.Channels.{content}
-use Rattle.plan.specs.Ledger.{ledger}
-use Rattle.format.specs.Records.{task_bytes}
-use Rattle.format.specs.Encode.{placed_in}
-use Rattle.format.specs.Writes.{tasks_bytes}
-use Rattle.format.proofs.WriteTurns.{channels_length, read_some, read_none, task_next, none_next, length_task}
+-- The chain counts the filled channels, of 37 bytes each.
+use Rattle.std.proofs.Common.{◌≡◌, ap, refl, Ok, Err, Result, length, arith, rules, tests}
+use Rattle.std.specs.List.{filter, range_with_len}
+use Rattle.std.specs.Result.{is_ok}
+use Rattle.std.proofs.lemmas.Iterator.{YieldsList-from_range}
+use Rattle.std.proofs.lemmas.Iterator.Consumers.{YieldsList-from_filter, count_from_yields_List}
+use Rattle.loads.specs.declared.entry.Entry.{Entry}
+use Rattle.loads.specs.declared.refusal.Refusal.{Refusal}
+use Rattle.loads.specs.Channels.{Content}
+use Rattle.plan.specs.Ledger.{read_entry}
+use Rattle.format.proofs.WriteTurns.{is_filled, few_filled, counted_all}
+use Rattle.image.proofs.write.tasks_len.Given as given
 use Rattle.image.proofs.write.tasks_len.Goals as goal
-use Rattle.image.proofs.write.tasks_len.Goals.{in-Ok, in-Err}
+use Rattle.image.proofs.write.tasks_len.Goals.{After-count-filled}
 
-pub loop-channel-preserved : goal.loop-channel-preserved
-loop-channel-preserved g c =
-    let l = ledger c.args.plan.now in
-    let i = c.loop-channel.channel in
-    let v = c.loop-channel.invariant in
-    let h : i < length l = omega (arith, channels_length c.args.plan.now.tasks) in
-    elim c.match-read.branch [
-      | in-Ok w ↦
-          let k = content w.in-Ok.field-0 in
-          let b = task_bytes (placed_in i k) in
-          let e = ap length (task_next l i k h (read_some l i (omega arith) k w.in-Ok.ensures)) in
-          (omega (arith, e, length-append b (tasks_bytes (i + 1) (drop (i + 1) l)), length_task i k w.in-Ok.field-0.sixteen, w.n-is, v.0), omega (arith, w.n-is, v.1))
-      | in-Err w ↦
-          let e = ap length (none_next l i h (read_none l i (omega arith) _ w.in-Err.ensures)) in
-          (omega (arith, e, w.n-is, v.0), omega (arith, w.n-is, v.1))
-    ]
+is_ok_read : (r : Result Entry Refusal) (x : Result Content Refusal) → read_entry r ≡ x → is_ok r ≡ is_ok x
+is_ok_read (Ok e) x p = ap is_ok p
+is_ok_read (Err e) x p = ap is_ok p
+
+counted : (g : given.Over) (c : After-count-filled g) → c.count-filled.result ≡ length (filter (is_filled c.args.plan.now.loads.first) (range_with_len 0 64))
+counted g c =
+    count_from_yields_List c.filter.result c.count-filled.result c.count-filled.ensures.ran
+    (YieldsList-from_filter _ (is_filled c.args.plan.now.loads.first) (YieldsList-from_range 0 64 64 (cc) refl) c.filter.ensures.closure (λ x b q k. search (rules, tests, is_ok_read)))
+
+pub overflow_mul-result : goal.overflow_mul-result
+overflow_mul-result g c = omega (arith, counted g (goal.at.overflow_mul-result g c).After-count-filled, few_filled c.args.plan.now.loads.first)
 
 pub returns : goal.returns
 returns g c =
-    let l = ledger c.args.plan.now in
-    let e = ap length (at_drop_all (tasks_bytes c.loop-channel.channel) l c.loop-channel.channel (omega (arith, channels_length c.args.plan.now.tasks))) in
-    record { value = omega (arith, e, c.loop-channel.invariant.0); bound = omega (arith, c.loop-channel.invariant.1) }
+    let e = counted g (goal.at.returns g c).After-count-filled in
+    record { value = omega (arith, e, counted_all c.args.plan.now.loads.first); bound = omega (arith, e, few_filled c.args.plan.now.loads.first) }

@@ -10,7 +10,8 @@ use Rattle.format.specs.Records.{Rec, TaskRec, task_rec, frame_rec, start, after
 use Rattle.format.specs.Decode.{decode, tasks_in, task_piece, frame_piece}
 use Rattle.format.specs.Parts.{pieces_from}
 use Rattle.format.specs.Prefixes.{params}
-use Rattle.format.proofs.Items.{Item, checks, decode_checks, clash, more}
+use Rattle.format.proofs.Front.{clash}
+use Rattle.format.proofs.Items.{Item, checks, decode_checks, more}
 use Rattle.format.proofs.Rising.{lawful, task_passes, no_tasks}
 
 -- The tasks collected so far, with those of the records that are left, are those of the image; and there are no more of

@@ -19,6 +19,9 @@ Read = Result (Option Piece) ImageFault
 abbrev pub AllRead : Type 0
 AllRead = Result (List Rec) RecordFault
 
+pub clash : {A : Type 0} (e : RecordFault) (rs : List Rec) → ◌≡◌ {A = AllRead} (Err e) (Ok rs) → A
+clash e rs p = let z : ◌≡◌ {A = ℕ} 0 1 = cc in absurd (omega arith)
+
 -- The front of an image.
 
 abbrev pub piece_of : ℕ → Rec → Piece

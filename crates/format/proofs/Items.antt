@@ -9,7 +9,7 @@ use Rattle.format.specs.declared.fault.RecordFault.TheVariants.{Image}
 use Rattle.format.specs.Records.{Rec, size, start, after, fault}
 use Rattle.format.specs.Decode.{part, ended, with_rest, passed, records, decode, Piece, rec_in}
 use Rattle.format.specs.Parts.{offset, outcome, behind, pieces, pieces_from}
-use Rattle.format.proofs.Front.{Read, AllRead, next, part_cases}
+use Rattle.format.proofs.Front.{Read, AllRead, clash, next, part_cases}
 
 abbrev pub Item : Type 0
 Item = Result Piece ImageFault
@@ -141,9 +141,6 @@ was_ok xs p = let w = go (decode xs) p in (w.0, w.1, sym (decode_checks xs) ∙ 
     go : (x : AllRead) → Ok tt ≡ outcome x → (rs : List Rec) × (x ≡ Ok rs)
     go (Ok rs) q = (rs, refl)
     go (Err e) q = let z : ◌≡◌ {A = ℕ} 0 1 = cc in absurd (omega arith)
-
-pub clash : {A : Type 0} (e : RecordFault) (rs : List Rec) → ◌≡◌ {A = AllRead} (Err e) (Ok rs) → A
-clash e rs p = let z : ◌≡◌ {A = ℕ} 0 1 = cc in absurd (omega arith)
 
 -- The check goes on after a record that passes, and ends at one that does not.
 pub goes : (b c : Before) (p : Piece) (is : List Item) → Ok c ≡ passed b (offset p) (rec_in p) → outcome (checks b (Ok p ∷ is)) ≡ outcome (checks c is)

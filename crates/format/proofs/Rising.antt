@@ -13,7 +13,8 @@ use Rattle.format.specs.Records.{Rec, task_rec, frame_rec, TaskRec, start, after
 use Rattle.format.specs.Decode.{decode, tasks_in, rec_in}
 use Rattle.format.specs.Encode.{placed_in, tasks}
 use Rattle.format.specs.Parts.{offset, pieces_from}
-use Rattle.format.proofs.Items.{Item, checks, decode_checks, clash, more}
+use Rattle.format.proofs.Front.{clash}
+use Rattle.format.proofs.Items.{Item, checks, decode_checks, more}
 use Rattle.format.proofs.TakingFrames.{out_none}
 
 -- Each record passes after those before it.

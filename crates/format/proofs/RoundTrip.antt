@@ -18,7 +18,7 @@ use Rattle.format.specs.Decode.{part, ended, with_rest, passed, records, decode,
 use Rattle.format.specs.Encode.{image, placed_in, tasks, contents, encode}
 use Rattle.format.specs.Statements.{Writable}
 use Rattle.format.proofs.RecordBytes.{Fits, length_rec}
-use Rattle.format.proofs.Front.{Read, AllRead, Stands, rec_of_piece, part_rec, part_stands, checked, next, records_next}
+use Rattle.format.proofs.Front.{Read, AllRead, clash, Stands, rec_of_piece, part_rec, part_stands, checked, next, records_next}
 
 -- Reading back.
 abbrev Good : Before → List Rec → Type 0
@@ -92,36 +92,33 @@ reads_back l fs h q k r =
 abbrev Written : ℕ → Type 0
 Written n = (b : Before) (at : ℕ) (xs : List ℕ) (rs : List Rec) → Bytes xs → records n b at xs ≡ Ok rs → image rs ≡ xs
 
-refused : {A : Type 0} (e : RecordFault) (rs : List Rec) → ◌≡◌ {A = AllRead} (Err e) (Ok rs) → A
-refused e rs p = let z : ◌≡◌ {A = ℕ} 0 1 = cc in absurd (omega arith)
-
 written_end : (at : ℕ) (ys : List ℕ) (rs : List Rec) → ended at ys ≡ Ok rs → image rs ≡ 0x45 ∷ 0x4E ∷ ys
 written_end at [] rs p = let e : [] ≡ rs = cc in ap image (sym e)
-written_end at (y ∷ ys) rs p = refused (Image (Trailing at)) rs p
+written_end at (y ∷ ys) rs p = clash (Image (Trailing at)) rs p
 
 written_rest : (r : Rec) (xs : List ℕ) (x : AllRead) (rs : List Rec) → with_rest r x ≡ Ok rs → rec_bytes r ++ drop (size r) xs ≡ xs
     → ((qs : List Rec) → x ≡ Ok qs → image qs ≡ drop (size r) xs) → image rs ≡ xs
-written_rest r xs (Err e) rs p s ih = refused e rs p
+written_rest r xs (Err e) rs p s ih = clash e rs p
 written_rest r xs (Ok qs) rs p s ih =
     let e : rs ≡ r ∷ qs = cc in
     ap image e ∙ image_more r qs ∙ ap (λ (ys : List ℕ). rec_bytes r ++ ys) (ih qs refl) ∙ s
 
 written_checked : (n : ℕ) → Written n → (at : ℕ) (xs : List ℕ) (r : Rec) (x : Result Before RecordFault) (rs : List Rec) → Bytes xs
     → checked n at xs r x ≡ Ok rs → rec_bytes r ++ drop (size r) xs ≡ xs → image rs ≡ xs
-written_checked n ih at xs r (Err e) rs h p s = refused e rs p
+written_checked n ih at xs r (Err e) rs h p s = clash e rs p
 written_checked n ih at xs r (Ok c) rs h p s =
     written_rest r xs (records n c (at + size r) (drop (size r) xs)) rs p s
     (λ qs e. ih c (at + size r) (drop (size r) xs) qs (All-drop (λ x. x < 256) (size r) xs h) e)
 
 written_next : (n : ℕ) → Written n → (b : Before) (at : ℕ) (xs : List ℕ) (x : Read) (rs : List Rec) → Bytes xs
     → next n b at xs x ≡ Ok rs → ((o : Option Piece) → x ≡ Ok o → Stands xs o) → image rs ≡ xs
-written_next n ih b at xs (Err e) rs h p s = refused (Image e) rs p
+written_next n ih b at xs (Err e) rs h p s = clash (Image e) rs p
 written_next n ih b at xs (Ok None) rs h p s = written_end (at + 2) (drop 2 xs) rs p ∙ s None refl
 written_next n ih b at xs (Ok (Some q)) rs h p s = written_checked n ih at xs (rec_in q) (passed b at (rec_in q)) rs h p (s (Some q) refl)
 
 writes : (n : ℕ) → Written n
 unfolding records
-writes zero b at xs rs h p = refused (Image (Cut at)) rs p
+writes zero b at xs rs h p = clash (Image (Cut at)) rs p
 writes (suc n) b at xs rs h p = written_next n (writes n) b at xs (part at xs) rs h (sym (records_next n b at xs) ∙ p) (λ o e. part_stands at xs o h e)
 
 pub writes_back : (xs : List ℕ) (rs : List Rec) → Bytes xs → decode xs ≡ Ok rs → image rs ≡ xs

@@ -1,8 +1,9 @@
 -- Writing record by record: what is written and what is left make up the whole image.
 use Rattle.std.proofs.Common.{◌≡◌, ℕ, zero, suc, ◌+◌, ◌*◌, ◌<◌, ◌≤◌, false, ltb, leb, List, [], ◌∷◌, ◌++◌, map, length, get_or, take, drop, Bool, cond, Some, None, Ok, Err, Option, Result, sym, refl, ap, ◌∙◌, subst, append_assoc, add-zero, zero-add, add-one, arith, length-append}
-use Rattle.std.specs.List.{flat_map, filter, range_with_len}
+use Rattle.std.specs.List.{filter, range_with_len}
 use Rattle.std.proofs.lemmas.Bool.{le-leb, lt-leb, le-ltb, cond-true, cond-false}
 use Rattle.std.proofs.lemmas.List.{append-nil, length-map, at_drop_all, at_drop_more}
+use Rattle.std.proofs.lemmas.Grind.{flat_map-append}
 use Rattle.std.proofs.lemmas.List.Sums.{length-filter, count_by-le-length}
 use Rattle.std.specs.Result.{is_ok}
 use Rattle.loads.specs.declared.refusal.Refusal.{Refusal}
@@ -15,7 +16,7 @@ use Rattle.loads.specs.Params.{FrameParams}
 use Rattle.loads.specs.Making.{frame_params}
 use Rattle.loads.specs.Channels.{Content, Channels, content, held_content, slot_content, channels}
 use Rattle.plan.specs.Ledger.{reading, by_content}
-use Rattle.format.specs.Records.{Rec, task_rec, frame_rec, task_bytes, frame_bytes, rec_bytes}
+use Rattle.format.specs.Records.{task_rec, frame_rec, task_bytes, frame_bytes, rec_bytes}
 use Rattle.format.specs.Encode.{placed_in, encode, tasks}
 use Rattle.format.specs.Writes.{tasks_bytes, frames_bytes, written, placed}
 
@@ -101,12 +102,8 @@ module _ (t : Table Slot) (i : ℕ) (h : i < 64) where
 pub length_task : (c : ℕ) (k : Content) → length k.label ≡ 16 → length (task_bytes (placed_in c k)) ≡ 37
 length_task c k h = simp length-append (omega (arith, h))
 
-joined_append : (rs qs : List Rec) → flat_map rec_bytes (rs ++ qs) ≡ flat_map rec_bytes rs ++ flat_map rec_bytes qs
-joined_append [] qs = refl
-joined_append (r ∷ rs) qs = ap (λ (xs : List ℕ). rec_bytes r ++ xs) (joined_append rs qs) ∙ sym (append_assoc (rec_bytes r) (flat_map rec_bytes rs) (flat_map rec_bytes qs))
-
 pub encode_parts : (l : Channels) (fs : List FrameParams) → encode l fs ≡ (tasks_bytes 0 l ++ frames_bytes fs) ++ (0x45 ∷ 0x4E ∷ [])
-encode_parts l fs = ap (λ (xs : List ℕ). xs ++ (0x45 ∷ 0x4E ∷ [])) (joined_append (map task_rec (tasks 0 l)) (map frame_rec fs))
+encode_parts l fs = ap (λ (xs : List ℕ). xs ++ (0x45 ∷ 0x4E ∷ [])) (flat_map-append rec_bytes (map task_rec (tasks 0 l)) (map frame_rec fs))
 
 pub length_frames : (fs : List FrameParams) → length (frames_bytes fs) ≡ 14 * length fs
 length_frames [] = refl

@@ -50,6 +50,7 @@ fn judge_tasks(plan: &Beside<TaskList, RampTrain>) -> Result<u64, PlanFault>
     ensures says { result ≡ one_by_one (train_meaning (frames_of plan.now.second)) (tasks_of plan.now.first) }
     ensures safe { (w : ℕ) → result ≡ Ok w → Accepted (beside (tasks_meaning (tasks_of plan.now.first)) (train_meaning (frames_of plan.now.second))).amounts }
 {
+    // No `map_err`: its closure would have to state again what `first_refused` requires of `unfit`.
     match judge(plan) {
         Ok(busy) => Ok(busy),
         Err(unfit) => {
@@ -72,8 +73,8 @@ pub fn judge_image(image: &[u8]) -> Result<u64, PlanFault>
     take_frames(&mut plan.second, image)?;
     add_tasks(&mut plan.first, image);
     let count = plan.first.tasks().len();
-    let first_frame = TASK * count;
-    let busy = judge(&plan.second).map_err(|unfit| PlanFault::Refused(unfit.into(), first_frame))?;
+    let at = TASK * count;
+    let busy = judge(&plan.second).map_err(|unfit| PlanFault::Refused(unfit.into(), at))?;
     if count == 0 {
         return Ok(busy);
     }

@@ -39,7 +39,7 @@ impl<'a> Writer<'a> {
 
     /// Writes the record of a frame.
     fn put_frame(&mut self, f: &Frame)
-        requires { self.old.at + 14 ≤ length self.old.out.now }
+        requires { self.old.at + FRAME ≤ length self.old.out.now }
         ensures same_buffer { self.new.out.ghost_name ≡ self.old.out.ghost_name }
         ensures wrote { Wrote self.old (frame_bytes (frame_params f.now)) self.new }
     {
@@ -51,7 +51,7 @@ impl<'a> Writer<'a> {
 
     /// Writes the record of what stands in a channel.
     fn put_task(&mut self, channel: u8, e: &Entry)
-        requires { self.old.at + 37 ≤ length self.old.out.now }
+        requires { self.old.at + TASK ≤ length self.old.out.now }
         ensures same_buffer { self.new.out.ghost_name ≡ self.old.out.ghost_name }
         ensures wrote { Wrote self.old (task_bytes (placed_in channel (content e.now))) self.new }
     {

@@ -2,17 +2,13 @@ ghost use Rattle.format.specs.Statements.{NumbersKeep, ReadsBack, WritesBack};
 ghost use Rattle.format.specs.Examples.{Examples};
 
 /// The byte format keeps what it is given: numbers in bytes, images read back, and images written back.
-pub fn format_keeps() -> u8
+pub fn format_keeps()
     ensures numbers { NumbersKeep }
     ensures back { ReadsBack }
     ensures forth { WritesBack }
-{
-    0
-}
+{}
 
 /// The examples of images, read or refused, hold for the definitions.
-pub fn examples_hold() -> u8
+pub fn examples_hold()
     ensures { Examples }
-{
-    0
-}
+{}

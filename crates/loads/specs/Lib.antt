@@ -18,7 +18,7 @@ pub mod OneTask
 pub mod TaskJobs
 pub mod TaskList
 pub mod TaskMarks
-pub mod TaskLoops
+pub mod ListRanges
 pub mod Ranged
 pub mod TrainRests
 pub mod TrainRanges

@@ -1,7 +1,7 @@
 ghost use Rattle.loads.specs.Tasks.{tasks_meaning};
 ghost use Rattle.loads.specs.Lists.{tasks_of};
 ghost use Rattle.loads.specs.TaskList.{tasks_laws};
-ghost use Rattle.loads.specs.TaskLoops.{list_ranged};
+ghost use Rattle.loads.specs.ListRanges.{list_ranged};
 
 use super::TaskList;
 use crate::places::{largest, latest, total};

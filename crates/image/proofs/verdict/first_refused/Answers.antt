@@ -14,7 +14,7 @@ use Rattle.loads.specs.Making.{task_params}
 use Rattle.loads.specs.Tasks.{tasks_meaning}
 use Rattle.loads.specs.Lists.{tasks_of}
 use Rattle.loads.specs.Train.{frames_of, train_meaning}
-use Rattle.loads.specs.TaskLoops.{list_ranged, list_few}
+use Rattle.loads.specs.ListRanges.{list_ranged, list_few}
 use Rattle.loads.proofs.Packing.{one_more_held}
 use Rattle.loads.specs.TrainLaws.{train_laws}
 use Rattle.loads.specs.TrainRanges.{frames_ranged}

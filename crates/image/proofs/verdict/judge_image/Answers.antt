@@ -6,7 +6,7 @@ use Rattle.std.proofs.lemmas.Result.{err_from_is_err_and}
 use Rattle.loads.specs.Making.{task_params}
 use Rattle.loads.specs.Lists.{tasks_of}
 use Rattle.loads.specs.Train.{frames_of, train_meaning}
-use Rattle.loads.specs.TaskLoops.{list_ranged}
+use Rattle.loads.specs.ListRanges.{list_ranged}
 use Rattle.loads.specs.TrainRanges.{frames_ranged}
 use Rattle.theory.specs.Verdict.{walk}
 use Rattle.plan.specs.Ledger.{refusal_of}

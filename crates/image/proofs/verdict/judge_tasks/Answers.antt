@@ -9,7 +9,7 @@ use Rattle.loads.specs.declared.train.RampTrain.{RampTrain}
 use Rattle.loads.specs.Tasks.{tasks_meaning}
 use Rattle.loads.specs.Lists.{tasks_of}
 use Rattle.loads.specs.Train.{frames_of, train_meaning}
-use Rattle.loads.specs.TaskLoops.{list_ranged}
+use Rattle.loads.specs.ListRanges.{list_ranged}
 use Rattle.loads.specs.TrainLaws.{train_laws}
 use Rattle.loads.specs.TrainRanges.{frames_ranged}
 use Rattle.format.proofs.Prefixes.{laws_of}

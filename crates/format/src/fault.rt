@@ -49,4 +49,4 @@ impl From<RecordFault> for PlanFault {
     }
 }
 
-pub mod told;
+mod told;

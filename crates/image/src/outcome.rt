@@ -15,7 +15,7 @@ pub enum Outcome {
 }
 
 impl Outcome {
-    /// The number that a host gets: 0 for yes, else the refusal's number, which is 11 for late.
+    /// The number that a host in C gets: 0 for yes, else the refusal's number, which is 11 for late.
     pub fn code(self) -> u32
         ensures { result ≡ code_of self }
     {

@@ -7,7 +7,8 @@ use format::part::TASK;
 use loads::refusal::Refusal;
 use loads::task::Task;
 
-/// The task in a record, or why it is not made.
+/// The task in a record, or why it is not made. For a `TryFrom` the bytes would need a type of their own, since neither
+/// they nor the task belong to this crate.
 pub(crate) fn made_task(bytes: &[u8; TASK]) -> Result<Task, Refusal>
     ensures { task_made result ≡ made_task (params_in bytes.now) }
 {

@@ -1,7 +1,8 @@
 ghost use Rattle.std.specs.Prelude.{◌≡◌};
 ghost use Rattle.theory.specs.Meaning.{later as later_of};
 
-/// The later of two ticks, each of which may be absent.
+/// The later of two ticks, each of which may be absent. It takes both apart: `a.max(b)` is shorter, and plain only to
+/// one who knows that `None` is below every `Some`.
 pub fn later(a: Option<u64>, b: Option<u64>) -> Option<u64>
     ensures { result ≡ later_of a b }
 {

@@ -19,7 +19,8 @@ impl Frame {
         })
     }
 
-    /// The frame with the least numbers; it fills the places of a train that are not in use.
+    /// The frame with the least numbers; it fills the places of a train that are not in use. It is no `Default`, which
+    /// everyone could call: no frame is what one means by none given.
     pub(crate) fn least() -> Frame
         ensures { frame_params result ≡ frame 1 1 1 }
     {

@@ -33,7 +33,8 @@ impl Task {
         })
     }
 
-    /// The task with the least numbers; it fills the places of a list that are not in use.
+    /// The task with the least numbers; it fills the places of a list that are not in use. It is no `Default`, which
+    /// everyone could call: no task is what one means by none given.
     pub(crate) fn least() -> Task
         ensures { task_params result ≡ task 1 1 1 0 0 }
     {

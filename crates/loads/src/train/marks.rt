@@ -58,7 +58,8 @@ impl<'a> Rounds<'a> {
         (last, off)
     }
 
-    /// The last deadline below t of the circle begun at place k.
+    /// The last deadline below t of the circle begun at place k. `Run::within_at` goes round in the same way: one
+    /// function for both would take both steps as closures and ask for bounds on what they give, which is no plainer.
     fn last_at(&self, k: usize) -> Option<u64>
         requires { k ≤ length self.now.frames.now }
         ensures { result ≡ last_mark (λ u. mark_from self.now.round u 0 (map params (circle_from k self.now.frames.now))) self.now.t }
@@ -103,6 +104,7 @@ impl RampTrain {
         let round = self.round();
         let mut rests = [FrameRest::least(); 16];
         for (i, f) in frames.iter().enumerate() {
+            // By index: what is written through `iter_mut` a proof does not know afterwards, and a push takes longer.
             rests[i].set(f, t.saturating_sub(1 + u64::from(f.deadline())) % round);
         }
         let rounds = Rounds {

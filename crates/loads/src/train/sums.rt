@@ -40,6 +40,7 @@ impl RampTrain {
         for (i, f) in frames.iter().enumerate() {
             let time = (t + 1).saturating_sub(u64::from(f.deadline()));
             whole += u64::from(f.cost()) * (time / round);
+            // By index: what is written through `iter_mut` a proof does not know afterwards, and a push takes longer.
             rests[i].set(f, time % round);
         }
         let run = Run {
@@ -62,6 +63,7 @@ impl RampTrain {
         let rest = s % round;
         let mut rests = [FrameRest::least(); 16];
         for (i, f) in frames.iter().enumerate() {
+            // By index: what is written through `iter_mut` a proof does not know afterwards, and a push takes longer.
             rests[i].set(f, rest);
         }
         let run = Run {

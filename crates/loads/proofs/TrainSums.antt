@@ -8,7 +8,9 @@ use Rattle.std.proofs.lemmas.List.FromFn.{map-range_with_len_more}
 use Rattle.std.proofs.lemmas.List.Recursion.{is_sum_by}
 use Rattle.std.proofs.lemmas.List.Sums.{sum_by-cons, fold_push}
 use Rattle.loads.specs.declared.frame.Frame.{Frame}
+use Rattle.loads.specs.declared.train.RampTrain.{RampTrain}
 use Rattle.loads.specs.declared.train.rest.FrameRest.{FrameRest}
+use Rattle.loads.specs.FixedVecs.{items_of, items_few}
 use Rattle.loads.specs.Params.{FrameParams}
 use Rattle.loads.specs.Making.{frame_params}
 use Rattle.loads.specs.Train.{cycle, circle_from, largest_of, sum_along, within, train_amounts}
@@ -26,9 +28,16 @@ unfolding cycle
 cycle_positive [] h = absurd (omega arith)
 cycle_positive (f ∷ fs) h = omega (arith, f.gap_range.0)
 
-pub sum_most : (g : Frame → ℕ) → ((f : Frame) → g f ≤ 10000000) → (fs : List Frame) → sum_by g fs ≤ 10000000 * length fs
+sum_most : (g : Frame → ℕ) → ((f : Frame) → g f ≤ 10000000) → (fs : List Frame) → sum_by g fs ≤ 10000000 * length fs
 sum_most g b [] = omega arith
 sum_most g b (f ∷ fs) = omega (arith, sum_by-cons g f fs, sum_most g b fs, b f)
+
+-- The sums that a train keeps are those of at most sixteen frames.
+pub few_gaps : (r : RampTrain) → r.round ≤ 160000000
+few_gaps r = omega (arith, r.gaps, sum_most (λ f. f.gap) (λ f. f.gap_range.1) (items_of r.frames), items_few r.frames)
+
+pub few_costs : (r : RampTrain) → r.work ≤ 160000000
+few_costs r = omega (arith, r.costs, sum_most (λ f. f.cost) (λ f. f.cost_range.1) (items_of r.frames), items_few r.frames)
 
 -- A sum of what does not depend on the release.
 pub still_sum : (g : FrameParams → ℕ) (fs : List Frame) → sum_along (λ f o. g f) 0 (map frame_params fs) ≡ sum_by (λ (f : Frame). g (frame_params f)) fs

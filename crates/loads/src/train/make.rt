@@ -14,6 +14,8 @@ impl RampTrain {
     {
         RampTrain {
             frames: FixedVec::new(Frame::least()),
+            round: 0,
+            work: 0,
         }
     }
 
@@ -40,7 +42,10 @@ impl RampTrain {
     pub fn push(&mut self, f: Frame) -> Result<(), Refusal>
         ensures { (result, frames_of self.new) ≡ pushed (frames_of self.old) (frame_params f) }
     {
-        self.frames.push(f).map_err(|_| Refusal::TrainFull)
+        self.frames.push(f).map_err(|_| Refusal::TrainFull)?;
+        self.round += u64::from(f.gap());
+        self.work += u64::from(f.cost());
+        Ok(())
     }
 
     /// Replaces what the train holds by these frames; more than sixteen are refused, and the train stays as it was.

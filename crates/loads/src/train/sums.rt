@@ -14,7 +14,7 @@ impl RampTrain {
         ensures positive { 0 < length (frames_of self.now) → 0 < result }
         ensures near { result ≤ 160000000 }
     {
-        self.frames().iter().map(|f| u64::from(f.gap())).sum()
+        self.round
     }
 
     /// The sum of the costs.
@@ -23,7 +23,7 @@ impl RampTrain {
         ensures same { result ≡ sum_along (λ f o. f.cost) 0 (frames_of self.now) }
         ensures small { result ≤ 160000000 }
     {
-        self.frames().iter().map(|f| u64::from(f.cost())).sum()
+        self.work
     }
 
     /// The largest work due by t, over the frames that the circle can begin with. Due by t are the jobs released before

@@ -1,4 +1,4 @@
--- A field of a record is the number that its bytes, read one by one, make up.
+-- A field of one byte is that byte.
 use Rattle.std.proofs.Common.{◌≡◌, ℕ, ◌+◌, ◌≤◌, List, [], ◌∷◌, length, get_or, take, drop, ◌∙◌, add-zero, arith, length-drop, get_or-drop}
 use Rattle.format.specs.Bytes.{value}
 use Rattle.format.specs.Records.{field}

@@ -150,9 +150,6 @@ goes b c p is e = sym (ap (λ (x : Result Before RecordFault). outcome (by_check
     go (Ok rs) = refl
     go (Err f) = refl
 
-pub fails : (b : Before) (p : Piece) (is : List Item) (e : RecordFault) → Err e ≡ passed b (offset p) (rec_in p) → outcome (checks b (Ok p ∷ is)) ≡ Err e
-fails b p is e q = sym (ap (λ (x : Result Before RecordFault). outcome (by_check (rec_in p) (λ d. checks d is) x)) q)
-
 -- Where all records pass: the first of them, and those after it.
 pub record More (b : Before) (p : Piece) (is : List Item) (rs : List Rec) : Type 0 where
   pub rest : List Rec

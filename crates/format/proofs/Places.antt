@@ -25,9 +25,3 @@ be_2 n = ap (λ (k : ℕ). n / 256 % 256 ∷ k % 256 ∷ []) (sym (div-one n))
 
 pub be_1 : (n : ℕ) → n < 256 → n ∷ [] ≡ bytes 1 n
 be_1 n h = let e : n ≡ n / 1 % 256 = omega arith in ap (λ (k : ℕ). k ∷ []) e
-
-pub room : (pre xs rest all : List ℕ) → (pre ++ xs) ++ rest ≡ all → length pre + length xs ≤ length all
-room pre xs rest all e =
-    let p : length ((pre ++ xs) ++ rest) ≡ (length pre + length xs) + length rest = length-append (pre ++ xs) rest ∙ ap (λ (n : ℕ). n + length rest) (length-append pre xs) in
-    let q = ap length e in
-    omega arith

@@ -49,4 +49,4 @@ impl From<RecordFault> for PlanFault {
     }
 }
 
-mod told;
+mod refusal;

@@ -8,8 +8,8 @@ use Rattle.image.specs.Writer.{Wrote}
 pub wrote_then : {a b c : Writer} {xs ys : List ℕ} → Wrote a xs b → Wrote b ys c → Wrote a (xs ++ ys) c
 wrote_then {a} {b} {c} {xs} {ys} p q = record {
   at = omega (arith, p.at, q.at, length-append xs ys);
-  bytes = q.bytes ∙ (λ i. placed (p.bytes i) (p.at i) ys) ∙ placed_more a.out.now a.at (length xs) xs ys refl (omega (arith, p.at, p.long, p.room));
-  long = q.long ∙ p.long;
+  bytes = q.bytes ∙ (λ i. placed (p.bytes i) (p.at i) ys) ∙ placed_more a.out.now a.at (length xs) xs ys refl (omega (arith, p.at, p.same_length, p.room));
+  same_length = q.same_length ∙ p.same_length;
   room = q.room;
 }
 

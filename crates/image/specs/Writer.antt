@@ -7,5 +7,5 @@ use Rattle.image.specs.declared.write.Writer.{Writer}
 pub record Wrote (a : Writer) (xs : List ℕ) (b : Writer) : Type 0 where
   pub at : b.at ≡ a.at + length xs
   pub bytes : b.out.now ≡ placed a.out.now a.at xs
-  pub long : length b.out.now ≡ length a.out.now
+  pub same_length : length b.out.now ≡ length a.out.now
   pub room : b.at ≤ length b.out.now

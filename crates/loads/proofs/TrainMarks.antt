@@ -17,7 +17,7 @@ use Rattle.loads.specs.Params.{FrameParams}
 use Rattle.loads.specs.Making.{frame_params}
 use Rattle.loads.specs.Train.{cycle, circle_from, any_of, hits, mark_from, train_amounts}
 use Rattle.loads.specs.TrainRests.{params, gaps, EachRest}
-use Rattle.loads.proofs.TrainSums.{with_rest, circle-map, fold_turn}
+use Rattle.loads.proofs.TrainSums.{with_rest, circle_map, fold_turn}
 
 -- The last of a, a + c, a + 2 * c, .. below t.
 pub last_hit_none : (c t o d : ℕ) → t ≤ o + d → None ≡ last_mark (λ u. hits c u (o + d)) t
@@ -156,5 +156,5 @@ pub marks_written : (rest : FrameParams → ℕ) (t : ℕ) (fs : List Frame)
 unfolding train_amounts
 marks_written rest t fs =
     ap (λ (m : ℕ → Bool). last_mark m t) (fun_ext (λ u. ap₂ any_of
-    (fun_ext (λ k. ap (mark_from (cycle (map frame_params fs)) u 0) (sym (circle-map params k (map (with_rest rest) fs)) ∙ ap (circle_from k) (params_written rest fs))))
+    (fun_ext (λ k. ap (mark_from (cycle (map frame_params fs)) u 0) (sym (circle_map params k (map (with_rest rest) fs)) ∙ ap (circle_from k) (params_written rest fs))))
     (length-map fs (with_rest rest) ∙ sym (length-map fs frame_params))))

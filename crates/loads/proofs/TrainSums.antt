@@ -57,9 +57,9 @@ unfolding sum_along
 rests_within rest off [] = refl
 rests_within rest off (f ∷ fs) = ap (λ n. cond (ltb off (rest (frame_params f))) f.cost 0 + n) (rests_within rest (off + f.gap) fs)
 
-pub circle-map : {A B : Type 0} (g : A → B) (k : ℕ) (xs : List A) → circle_from k (map g xs) ≡ map g (circle_from k xs)
+pub circle_map : {A B : Type 0} (g : A → B) (k : ℕ) (xs : List A) → circle_from k (map g xs) ≡ map g (circle_from k xs)
 unfolding circle_from
-circle-map g k xs = ap₂ ◌++◌ (drop-map g k xs) (take-map g k xs) ∙ sym (map-append g (drop k xs) (take k xs))
+circle_map g k xs = ap₂ ◌++◌ (drop-map g k xs) (take-map g k xs) ∙ sym (map-append g (drop k xs) (take k xs))
 
 pub most_rests : (rest : FrameParams → ℕ) (fs : List Frame) (ls : List FrameRest) → ls ≡ map (with_rest rest) fs
     → largest_of (λ k. cost_within 0 (circle_from k ls)) (length ls) ≡ largest_of (λ k. within rest 0 (circle_from k (map frame_params fs))) (length (map frame_params fs))
@@ -67,7 +67,7 @@ most_rests rest fs ls e =
     ap (λ (ms : List FrameRest). largest_of (λ k. cost_within 0 (circle_from k ms)) (length ms)) e
     ∙ ap (largest_of (λ k. cost_within 0 (circle_from k (map (with_rest rest) fs)))) (length-map fs (with_rest rest) ∙ sym (length-map fs frame_params))
     ∙ largest_same _ _ (length (map frame_params fs))
-    (λ k _. ap (cost_within 0) (circle-map (with_rest rest) k fs) ∙ rests_within rest 0 (circle_from k fs) ∙ ap (within rest 0) (sym (circle-map frame_params k fs)))
+    (λ k _. ap (cost_within 0) (circle_map (with_rest rest) k fs) ∙ rests_within rest 0 (circle_from k fs) ∙ ap (within rest 0) (sym (circle_map frame_params k fs)))
 
 -- A fold over 0, 1, .. n, and the largest as a fold.
 pub fold_turn : {A B : Type 0} (h : B → A → B) (z : B) (g : ℕ → A) (n : ℕ) → fold h z (map g (range_with_len 0 (suc n))) ≡ h (fold h z (map g (range_with_len 0 n))) (g n)

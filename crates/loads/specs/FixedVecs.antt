@@ -7,6 +7,7 @@ use Rattle.loads.specs.declared.fixed_vec.FixedVec.{FixedVec}
 abbrev pub items_of : {T : Type 0} {N : ℕ} → FixedVec T N → List T
 items_of v = take v.count v.items
 
+-- They are at most N.
 pub items_few : {T : Type 0} {N : ℕ} (v : FixedVec T N) → length (items_of v) ≤ N
 items_few v = omega (arith, length-take v.count v.items, v.room)
 

@@ -9,6 +9,7 @@ pub mod Lists
 pub mod Channels
 pub mod Slots
 pub mod Train
+pub mod TrainRests
 pub mod Statements
 pub mod Cases
 -- Lemmas, up to the proof that tasks and trains keep the laws of a load. An impl of `Load` cites that proof, and so they
@@ -20,7 +21,6 @@ pub mod TaskList
 pub mod TaskMarks
 pub mod ListRanges
 pub mod Ranged
-pub mod TrainRests
 pub mod TrainRanges
 pub mod TrainCounts
 pub mod TrainCircle

@@ -1,4 +1,4 @@
--- Rows of places in which tasks can stand.
+-- What a closure gives of each task that it is called with.
 use Rattle.std.specs.Prelude.{◌≡◌}
 use Rattle.std.specs.Borrow.{Bor}
 use Rattle.std.specs.Fn.{Shared, FnReturns}

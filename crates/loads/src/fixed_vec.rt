@@ -27,7 +27,7 @@ impl<T: Copy, const N: usize> FixedVec<T, N> {
     ghost use Rattle.std.specs.Prelude.{[]};
     ghost use Rattle.loads.specs.FixedVecs.{items_of, added};
 
-    /// No values. The places that are not in use have `blank`.
+    /// Without values: the places that are not in use hold `blank`.
     pub(crate) fn new(blank: T) -> FixedVec<T, N>
         ensures { items_of result ≡ [] }
     {

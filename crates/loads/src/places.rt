@@ -15,17 +15,17 @@ const CUT: u64 = 1 << 40;
 
 /// A place in which a task can stand.
 pub(crate) trait Place {
-    ghost held: { Self → Option TaskParams };
+    ghost stands: { Self → Option TaskParams };
 
     /// The task that stands here, if there is one.
     fn task(&self) -> Option<&Task>
-        ensures { option_map params_behind result ≡ held self.now };
+        ensures { option_map params_behind result ≡ stands self.now };
 }
 
 /// The sum of an amount over the tasks of these places, cut at 2^40.
 pub(crate) fn total<P: Place, F: Fn(&Task) -> u64>(places: &[P], amount: F) -> u64
     requires { F.IsAlwaysCallable amount }
-    ensures { (f : TaskParams → ℕ) → Gives F.Fn amount f → result ≡ min (total f (filter_map P.held places.now)) (2 ^ 40) }
+    ensures { (f : TaskParams → ℕ) → Gives F.Fn amount f → result ≡ min (total f (filter_map P.stands places.now)) (2 ^ 40) }
 {
     let mut sum: u64 = 0;
     for place in places {
@@ -39,7 +39,7 @@ pub(crate) fn total<P: Place, F: Fn(&Task) -> u64>(places: &[P], amount: F) -> u
 /// The largest of an amount over the tasks of these places, cut at 2^40.
 pub(crate) fn largest<P: Place, F: Fn(&Task) -> u64>(places: &[P], amount: F) -> u64
     requires { F.IsAlwaysCallable amount }
-    ensures { (f : TaskParams → ℕ) → Gives F.Fn amount f → result ≡ min (largest f (filter_map P.held places.now)) (2 ^ 40) }
+    ensures { (f : TaskParams → ℕ) → Gives F.Fn amount f → result ≡ min (largest f (filter_map P.stands places.now)) (2 ^ 40) }
 {
     let mut most: u64 = 0;
     for place in places {
@@ -53,7 +53,7 @@ pub(crate) fn largest<P: Place, F: Fn(&Task) -> u64>(places: &[P], amount: F) ->
 /// The latest of the tasks' marks.
 pub(crate) fn latest<P: Place, F: Fn(&Task) -> Option<u64>>(places: &[P], mark: F) -> Option<u64>
     requires { F.IsAlwaysCallable mark }
-    ensures { (t : ℕ) → Gives F.Fn mark (λ x. last_mark (task_mark x) t) → result ≡ last_mark (λ u. any (λ x. task_mark x u) (filter_map P.held places.now)) t }
+    ensures { (t : ℕ) → Gives F.Fn mark (λ x. last_mark (task_mark x) t) → result ≡ last_mark (λ u. any (λ x. task_mark x u) (filter_map P.stands places.now)) t }
 {
     let mut last = None;
     for place in places {

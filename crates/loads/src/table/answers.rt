@@ -7,9 +7,9 @@ use crate::task::Task;
 use crate::ticks::Ticks;
 use theory::load::Load;
 
-/// A channel is a place of a task.
+/// A channel is a place in which a task can stand.
 impl Place for Slot {
-    ghost held = { slot_params };
+    ghost stands = { slot_params };
 
     fn task(&self) -> Option<&Task> {
         self.held.as_ref().map(|entry| &entry.task)

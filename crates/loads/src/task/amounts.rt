@@ -7,9 +7,9 @@ use super::Task;
 use crate::places::Place;
 use crate::ticks::Ticks;
 
-/// A task is a place in which it stands itself.
+/// A task alone is a place as well: it stands there itself.
 impl Place for Task {
-    ghost held = { λ x. Some (task_params x) };
+    ghost stands = { λ x. Some (task_params x) };
 
     fn task(&self) -> Option<&Task> {
         Some(self)

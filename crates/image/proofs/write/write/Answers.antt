@@ -1,5 +1,5 @@
 -- Tasks, frames and end mark written in turn are the image, which reads back; a short buffer is left alone.
-use Rattle.std.proofs.Common.{◌≡◌, ℕ, ◌≤◌, List, map, length, take, sym, ap, ◌∙◌, arith, length-take, rules}
+use Rattle.std.proofs.Common.{◌≡◌, ℕ, List, map, length, sym, ap, ◌∙◌, arith, rules}
 use Rattle.std.proofs.lemmas.List.{length-map}
 use Rattle.loads.specs.Making.{frame_params}
 use Rattle.loads.specs.Params.{FrameParams}
@@ -39,14 +39,14 @@ pub put_frames-requires : goal.put_frames-requires
 put_frames-requires g c =
     let w = c.put_tasks.ensures.wrote in
     let n = length-map c.frames-frames.result.now frame_params in
-    omega (arith, n, length_frames (map frame_params c.frames-frames.result.now), w.at, w.long, c.tasks_len.ensures.value, c.if-total-out.false)
+    omega (arith, n, length_frames (map frame_params c.frames-frames.result.now), w.at, w.same_length, c.tasks_len.ensures.value, c.if-total-out.false)
 
 pub put-requires : goal.put-requires
 put-requires g c =
     let w = c.put_tasks.ensures.wrote in
     let v = c.put_frames.ensures.wrote in
     let n = length-map c.frames-frames.result.now frame_params in
-    omega (arith, n, length_frames (map frame_params c.frames-frames.result.now), w.at, w.long, v.at, v.long, c.tasks_len.ensures.value, c.if-total-out.false)
+    omega (arith, n, length_frames (map frame_params c.frames-frames.result.now), w.at, w.same_length, v.at, v.same_length, c.tasks_len.ensures.value, c.if-total-out.false)
 
 pub returns-clause-says : goal.returns-clause-says
 returns-clause-says g c =

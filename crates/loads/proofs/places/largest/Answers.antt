@@ -8,7 +8,7 @@ loop-place-preserved g c = λ f k. elim c.match-task.branch [
   | in-Some w ↦ search (
     rules,
     largest_turn
-        g.P.Place.held
+        g.P.Place.stands
         c.args.places.now
         c.loop-place.place-index
         c.place-item.result
@@ -23,8 +23,8 @@ loop-place-preserved g c = λ f k. elim c.match-task.branch [
         (k w.in-Some.task w.amount.result record { met = w.amount.ensures })
         (c.loop-place.invariant f k),
   )
-  | in_default w ↦ search (rules, skip g.P.Place.held c.args.places.now c.loop-place.place-index c.place-item.result c.loop-place-test.true c.place-item.is w.in_default.ensures, c.loop-place.invariant f k)
+  | in_default w ↦ search (rules, skip g.P.Place.stands c.args.places.now c.loop-place.place-index c.place-item.result c.loop-place-test.true c.place-item.is w.in_default.ensures, c.loop-place.invariant f k)
 ]
 
 pub returns : goal.returns
-returns g c = λ f k. c.min.ensures ∙ ap (λ n. min n 1099511627776) (largest_end g.P.Place.held c.args.places.now c.loop-place.place-index f c.loop-place.most c.loop-place-test.false (c.loop-place.invariant f k))
+returns g c = λ f k. c.min.ensures ∙ ap (λ n. min n 1099511627776) (largest_end g.P.Place.stands c.args.places.now c.loop-place.place-index f c.loop-place.most c.loop-place-test.false (c.loop-place.invariant f k))

@@ -8,7 +8,7 @@ loop-place-preserved g c = λ t k. elim c.match-task.branch [
   | in-Some w ↦ search (
     rules,
     last_turn
-        g.P.Place.held
+        g.P.Place.stands
         c.args.places.now
         c.loop-place.place-index
         c.place-item.result
@@ -23,8 +23,8 @@ loop-place-preserved g c = λ t k. elim c.match-task.branch [
         (k w.in-Some.task w.mark.result record { met = w.mark.ensures })
         (c.loop-place.invariant t k),
   )
-  | in_default w ↦ search (rules, skip g.P.Place.held c.args.places.now c.loop-place.place-index c.place-item.result c.loop-place-test.true c.place-item.is w.in_default.ensures, c.loop-place.invariant t k)
+  | in_default w ↦ search (rules, skip g.P.Place.stands c.args.places.now c.loop-place.place-index c.place-item.result c.loop-place-test.true c.place-item.is w.in_default.ensures, c.loop-place.invariant t k)
 ]
 
 pub returns : goal.returns
-returns g c = λ t k. last_end g.P.Place.held c.args.places.now c.loop-place.place-index t c.loop-place.last c.loop-place-test.false (c.loop-place.invariant t k)
+returns g c = λ t k. last_end g.P.Place.stands c.args.places.now c.loop-place.place-index t c.loop-place.last c.loop-place-test.false (c.loop-place.invariant t k)

@@ -10,7 +10,7 @@ loop-place-preserved g c = elim c.match-task.branch [
     λ f k. search (
       rules,
       total_turn
-          g.P.Place.held
+          g.P.Place.stands
           c.args.places.now
           c.loop-place.place-index
           c.place-item.result
@@ -28,9 +28,9 @@ loop-place-preserved g c = elim c.match-task.branch [
   )
   | in_default w ↦ (
     omega arith,
-    λ f k. search (rules, skip g.P.Place.held c.args.places.now c.loop-place.place-index c.place-item.result c.loop-place-test.true c.place-item.is w.in_default.ensures, c.loop-place.invariant.1 f k),
+    λ f k. search (rules, skip g.P.Place.stands c.args.places.now c.loop-place.place-index c.place-item.result c.loop-place-test.true c.place-item.is w.in_default.ensures, c.loop-place.invariant.1 f k),
   )
 ]
 
 pub returns : goal.returns
-returns g c = λ f k. total_end g.P.Place.held c.args.places.now c.loop-place.place-index f c.loop-place.sum c.loop-place-test.false c.loop-place.invariant.0 (c.loop-place.invariant.1 f k)
+returns g c = λ f k. total_end g.P.Place.stands c.args.places.now c.loop-place.place-index f c.loop-place.sum c.loop-place-test.false c.loop-place.invariant.0 (c.loop-place.invariant.1 f k)

@@ -8,4 +8,4 @@ use Rattle.loads.proofs.places.total.Given as goal
 abbrev pub invariant-loop-place : goal.invariant-loop-place
 invariant-loop-place g l = (l.sum ≤ 1099511627776)
     × ((f : TaskParams → ℕ) → Gives g.F.Fn l.amount f
-    → min (l.sum + total f (filter_map g.P.Place.held (drop l.place-index l.places))) 1099511627776 ≡ min (total f (filter_map g.P.Place.held l.places)) 1099511627776)
+    → min (l.sum + total f (filter_map g.P.Place.stands (drop l.place-index l.places))) 1099511627776 ≡ min (total f (filter_map g.P.Place.stands l.places)) 1099511627776)

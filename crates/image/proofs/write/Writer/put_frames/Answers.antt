@@ -8,7 +8,7 @@ pub put_frame-requires : goal.put_frame-requires
 put_frame-requires c =
     let fs = c.args.frames.now in
     let i = c.loop-frame.frame-index in
-    omega (arith, c.loop-frame.invariant.wrote.at, c.loop-frame.invariant.wrote.long, c.requires, length_of_frames fs, length_of_frames (take i fs), length-take i fs, c.loop-frame-test.true)
+    omega (arith, c.loop-frame.invariant.wrote.at, c.loop-frame.invariant.wrote.same_length, c.requires, length_of_frames fs, length_of_frames (take i fs), length-take i fs, c.loop-frame-test.true)
 
 pub loop-frame-preserved : goal.loop-frame-preserved
 loop-frame-preserved c =

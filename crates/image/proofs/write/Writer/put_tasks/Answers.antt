@@ -21,7 +21,7 @@ put_task-requires g c =
     omega (
       arith,
       c.loop-channel.invariant.wrote.at,
-      c.loop-channel.invariant.wrote.long,
+      c.loop-channel.invariant.wrote.same_length,
       c.requires,
       ap length (task_more t i c.loop-channel-test.true k c.in-Ok.ensures),
       n,

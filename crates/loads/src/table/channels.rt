@@ -56,6 +56,6 @@ impl Table<Slot> {
         ensures { result ≡ found_from 0 (channels self.now) label.now }
     {
         let channel = self.slots.iter().position(|slot| slot.bears(label));
-        channel.map(|c| c as u8)
+        channel.and_then(|c| u8::try_from(c).ok())
     }
 }

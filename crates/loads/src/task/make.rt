@@ -21,7 +21,8 @@ impl Task {
         if jitter >= period || jitter >= deadline {
             return Err(Refusal::Jitter);
         }
-        if section > cost || section > 65_535 {
+        let section = u16::try_from(section).map_err(|_| Refusal::Section)?;
+        if u32::from(section) > cost {
             return Err(Refusal::Section);
         }
         Ok(Task {
@@ -29,7 +30,7 @@ impl Task {
             period,
             deadline,
             jitter,
-            section: section as u16,
+            section,
         })
     }
 

@@ -120,9 +120,6 @@ module _ (xs : List ℕ) (fs : List FrameParams) (k : Read xs fs) (fr : All Fram
 
   -- The train is accepted, and the tasks are entered.
   module _ (w : ℕ) (yes : Ok w ≡ walk g.amounts) (ps : List TaskParams) (p : ps ≡ params (tasks_in k.records)) where
-    abbrev guest : Meaning
-    guest = train_meaning (frames_in k.records)
-
     -- What entering says of all the records.
     entry_says : Says g 0 k.records blank (first_refused g 0 [] ps)
     entry_says =

@@ -61,10 +61,7 @@ fn pass(before: Before, part: Part) -> Result<Before, RecordFault>
 pub fn check(image: &[u8]) -> Result<(), RecordFault>
     ensures { result ≡ outcome (decode image.now) }
 {
-    let mut before = Before {
-        least: 0,
-        frames: 0,
-    };
+    let mut before = Before::default();
     for part in Parts::new(image) {
         before = pass(before, part?)?;
     }

@@ -5,7 +5,7 @@ use format::fault::PlanFault;
 use loads::refusal::Refusal;
 use std::fmt;
 
-/// What is answered on an image.
+/// What is answered on an image: a type of its own and no `Result`, so that it has a `Display`.
 #[derive(Clone, Copy, PartialEq, Eq, Debug)]
 pub enum Outcome {
     /// The plan is accepted: its busy period.

@@ -40,9 +40,7 @@ pub(crate) fn field<const N: usize>(bytes: &[u8], i: usize) -> [u8; N]
     requires { i + N ≤ length bytes.now }
     ensures { result ≡ take N (drop i bytes.now) }
 {
-    let mut field = [0; N];
-    field.copy_from_slice(&bytes[i..i + N]);
-    field
+    *bytes[i..].first_chunk().unwrap()
 }
 
 /// The number in the four bytes from place `i` on.

@@ -26,6 +26,7 @@ pub(crate) fn add_tasks(tasks: &mut TaskList, image: &[u8])
         → tasks_of tasks.new ≡ params (tasks_in rs) }
 {
     for part in Parts::new(image) {
+        // In two steps: with one pattern for both, the proof does not know of the other case that it is no task.
         let Ok(part) = part else {
             return;
         };

@@ -18,7 +18,8 @@ use loads::train::RampTrain;
 use plan::plan::Plan;
 use theory::load::Load;
 
-/// A lent buffer, and where the next byte goes.
+/// A lent buffer, and where the next byte goes. The library's `Write` for a buffer can fail, and does not say whose
+/// buffer it is.
 #[derive(Drop)]
 struct Writer<'a> {
     out: &'a mut [u8],

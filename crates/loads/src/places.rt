@@ -2,7 +2,6 @@ ghost use Rattle.std.specs.Prelude.{◌≡◌, ℕ, ◌^◌, min, Option, filter
 ghost use Rattle.std.specs.Option.{option_map};
 ghost use Rattle.theory.specs.Meaning.{last_mark};
 ghost use Rattle.loads.specs.Params.{TaskParams};
-ghost use Rattle.loads.specs.Making.{task_params};
 ghost use Rattle.loads.specs.Tasks.{total, largest, any, task_mark};
 ghost use Rattle.loads.specs.Places.{Gives, params_behind};
 

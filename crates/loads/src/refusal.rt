@@ -66,7 +66,7 @@ impl From<Unfit> for Refusal {
     }
 }
 
-/// The number of a refusal.
+/// The number of a refusal, case by case: `as` takes no enum of which a case has fields.
 impl From<Refusal> for u32 {
     ghost from_gives = { λ r n. n ≡ number r };
 

@@ -2,7 +2,7 @@ ghost use Rattle.std.specs.Prelude.{◌≡◌, length};
 
 use crate::entry::Entry;
 
-/// One channel: empty, or filled with label and task.
+/// One channel: empty, or filled with label and task. A table lends it to be changed by its own method.
 #[derive(Clone, Copy)]
 pub struct Slot {
     held: Option<Entry>,

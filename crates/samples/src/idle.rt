@@ -1,6 +1,8 @@
-ghost use Rattle.std.specs.Prelude.{◌≡◌, []};
-ghost use Rattle.samples.specs.Idle.{no_amounts};
-ghost use Rattle.samples.specs.NoJobs.{idle_lawful};
+#![tactic(auto, unfolding(theory::specs::Beside::nothing))]
+
+ghost use Rattle.std.specs.Prelude.{◌≡◌};
+ghost use Rattle.theory.specs.Beside.{nothing};
+ghost use Rattle.theory.proofs.BesideLaws.{nothing_laws};
 
 use theory::load::Load;
 
@@ -19,9 +21,9 @@ impl Idle {
 
 impl Load for Idle {
     // No amounts, and the empty list is the only list of jobs that is permitted: a job would be work that is due.
-    ghost meaning = { λ _. record { amounts = no_amounts; Permits = λ js. js ≡ [] } };
+    ghost meaning = { λ _. nothing };
 
-    ghost lawful = { λ _. idle_lawful };
+    ghost lawful = { λ _. nothing_laws };
 
     fn due(&self, _t: u64) -> u64 {
         0
@@ -35,7 +37,7 @@ impl Load for Idle {
         0
     }
 
-    #[tactic(auto, using(theory::proofs::LastMark::last_none))]
+    #[tactic(auto, using(theory::proofs::LastMark::last_none), unfolding(theory::specs::Beside::nothing))]
     fn last_mark(&self, _t: u64) -> Option<u64> {
         None
     }

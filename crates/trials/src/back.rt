@@ -1,4 +1,5 @@
 use format::fault::PlanFault;
+use format::part::{FRAME, TASK};
 use image::fill::fill;
 use image::frames::take_frames;
 use image::write::write;
@@ -6,7 +7,7 @@ use loads::train::RampTrain;
 use plan::plan::Plan;
 
 /// How many bytes the largest image takes: 64 tasks, 16 frames, the end mark.
-const LARGEST: usize = 64 * 37 + 16 * 14 + 2;
+const LARGEST: usize = 64 * TASK + 16 * FRAME + 2;
 
 /// Fills a new plan with an image and writes the plan again: whether the bytes are the same. A fault where the plan
 /// is refused.

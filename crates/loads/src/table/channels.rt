@@ -1,5 +1,5 @@
 ghost use Rattle.std.specs.Prelude.{◌≡◌};
-ghost use Rattle.loads.specs.Channels.{blank, channels, held_content, slot_content, read_content, held_at, put_at, same, bears as bears_label, found_from};
+ghost use Rattle.loads.specs.Channels.{blank, channels, held_content, slot_content, read_content, held_at, put_at, bears as bears_label, found_from};
 
 use super::{Slot, Table};
 use crate::entry::Entry;

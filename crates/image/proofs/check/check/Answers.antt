@@ -1,5 +1,5 @@
 -- The loop over the parts ends with the first fault, or with none.
-use Rattle.std.proofs.Common.{◌≡◌, List, ◌∷◌, Ok, sym, ap, ◌∙◌}
+use Rattle.std.proofs.Common.{◌≡◌, List, ◌∷◌, Ok, sym, ap, ◌∙◌, rules}
 use Rattle.format.specs.Records.{start}
 use Rattle.format.specs.Parts.{piece, seen, outcome}
 use Rattle.format.proofs.Items.{Item, checks, decode_checks, goes}
@@ -8,7 +8,9 @@ use Rattle.image.proofs.check.check.Goals as goal
 
 pub loop-part-init : goal.loop-part-init
 loop-part-init c =
-    ap (λ (is : List Item). outcome (checks start is)) (ap rest c.into_iter-part-iterator.ensures.into_iter_gives ∙ c.new-part-items.ensures)
+    let first : c.default-before.result ≡ start = search rules in
+    (λ i. outcome (checks (first i) (rest c.into_iter-part-iterator.result)))
+    ∙ ap (λ (is : List Item). outcome (checks start is)) (ap rest c.into_iter-part-iterator.ensures.into_iter_gives ∙ c.new-part-items.ensures)
     ∙ ap outcome (sym (decode_checks c.args.image.now))
 
 pub loop-part-preserved : goal.loop-part-preserved

@@ -66,7 +66,7 @@ module _ (g : Meaning) where
       rw (y, c, o) (ap (λ (xs : List TaskParams). by_verdict (weigh g xs)) (filled_set t.channel l t.content (omega (arith, k.channel)) m))
 
   -- The first step of entering.
-  entered_ok : (at : ℕ) (t : TaskRec) (rs : List Rec) (l : Channels) → admitted g l t.channel t.content ≡ Ok tt
+  pub entered_ok : (at : ℕ) (t : TaskRec) (rs : List Rec) (l : Channels) → admitted g l t.channel t.content ≡ Ok tt
       → entered g at (task_rec t ∷ rs) l ≡ entered g (at + 37) rs (set l t.channel (Some t.content))
   unfolding entered
   entered_ok at t rs l e =

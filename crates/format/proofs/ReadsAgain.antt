@@ -24,6 +24,7 @@ use Rattle.format.specs.Decode.{frames_in, decode}
 use Rattle.format.specs.Encode.{placed_in, tasks, contents, encode}
 use Rattle.format.specs.Fills.{taken, entered, filled}
 use Rattle.format.specs.Statements.{WritableChannel, Writable, ReadsAgain}
+use Rattle.format.proofs.Prefixes.{entered_ok}
 use Rattle.format.proofs.RoundTrip.{reads_back}
 
 abbrev Done : Type 0
@@ -83,11 +84,6 @@ unfolding entered
 entered_frames g at [] l = refl
 entered_frames g at (f ∷ fs) l = entered_frames g (at + 14) fs l
 
-granted : (g : Meaning) (at : ℕ) (rs : List Rec) (l : Channels) (t : TaskRec) → admitted g l t.channel t.content ≡ Ok tt
-    → entered g at (task_rec t ∷ rs) l ≡ entered g (at + 37) rs (set l t.channel (Some t.content))
-unfolding entered
-granted g at rs l t p = ap (λ (r : Result (Unit {0}) Refusal). let d : Done = elim r [ Err e ↦ (Err (Refused e at), l) | Ok u ↦ entered g (at + 37) rs (set l t.channel (Some t.content)) ] in d) p
-
 module _ (g : Meaning) (lg : Laws g) (l : Channels) (w : Writable l) (n : length l ≡ 64) (r : Ranged l) (a : Accepted (plan g l).amounts) (fs : List FrameParams) where
   none : Channels → Channels
   none rest = replicate (length rest) None
@@ -124,7 +120,7 @@ module _ (g : Meaning) (lg : Laws g) (l : Channels) (w : Writable l) (n : length
       ap (entered g at (map task_rec (tasks (suc c) rest) ++ map frame_rec fs)) (sym (append_assoc pre (None ∷ []) (replicate (length rest) None)))
       ∙ refill (suc c) at (pre ++ (None ∷ [])) rest (append_assoc pre (None ∷ []) rest ∙ e) (length-append pre (None ∷ []) ∙ omega arith)
   refill c at pre (Some k ∷ rest) e q =
-      granted g at (map task_rec (tasks (suc c) rest) ++ map frame_rec fs) (pre ++ (None ∷ replicate (length rest) None)) (placed_in c k) (admits c pre rest k e q)
+      entered_ok g at (placed_in c k) (map task_rec (tasks (suc c) rest) ++ map frame_rec fs) (pre ++ (None ∷ replicate (length rest) None)) (admits c pre rest k e q)
       ∙ ap (entered g (at + 37) (map task_rec (tasks (suc c) rest) ++ map frame_rec fs)) (set_at pre c None (Some k) (replicate (length rest) None) q ∙ sym (append_assoc pre (Some k ∷ []) (replicate (length rest) None)))
       ∙ refill (suc c) (at + 37) (pre ++ (Some k ∷ [])) rest (append_assoc pre (Some k ∷ []) rest ∙ e) (length-append pre (Some k ∷ []) ∙ omega arith)
 

@@ -13,7 +13,12 @@ use Rattle.theory.proofs.Never.{never_late}
 use Rattle.loads.specs.Params.{TaskParams, FrameParams, TaskRanges, FrameRanges}
 use Rattle.loads.specs.Tasks.{tasks_meaning, tasks_amounts}
 use Rattle.loads.specs.Channels.{Channels, blank, filled}
-use Rattle.loads.specs.Train.{train_meaning}
+use Rattle.loads.specs.declared.list.TaskList.{TaskList}
+use Rattle.loads.specs.declared.train.RampTrain.{RampTrain}
+use Rattle.loads.specs.Lists.{tasks_of}
+use Rattle.loads.specs.ListRanges.{list_ranged}
+use Rattle.loads.specs.TrainRanges.{frames_ranged}
+use Rattle.loads.specs.Train.{frames_of, train_meaning}
 use Rattle.loads.proofs.Fewer.{none_filled}
 use Rattle.loads.specs.TrainLaws.{train_laws}
 use Rattle.plan.specs.Ledger.{plan, refusal_of}
@@ -34,6 +39,13 @@ Taken = Result (Unit {0}) RecordFault × List FrameParams
 
 abbrev Judged : Type 0
 Judged = Result ℕ PlanFault
+
+-- A list of tasks beside a train keeps the laws.
+pub laws_of_train : (train : RampTrain) → Laws (train_meaning (frames_of train))
+laws_of_train train = train_laws (frames_of train) (frames_ranged train)
+
+pub laws_beside : (tasks : TaskList) (train : RampTrain) → Laws (beside (tasks_meaning (tasks_of tasks)) (train_meaning (frames_of train)))
+laws_beside tasks train = laws_of (train_meaning (frames_of train)) (laws_of_train train) (tasks_of tasks) (list_ranged tasks)
 
 -- Where the frames are not taken, the image was not read.
 not_taken : (x : Result (List Rec) RecordFault) (e : RecordFault) (fs held : List FrameParams) → ◌≡◌ {A = Taken} (Err e, fs) (taken x held) → ◌≡◌ {A = Judged} (Err (Record e)) (over_records x)

@@ -1,5 +1,5 @@
 -- Each step of judge and audit keeps the verdict on what is left to look at, so both end with theirs.
-use Rattle.std.proofs.Common.{◌≡◌, ℕ, suc, ◌+◌, ◌^◌, ◌<◌, ◌≤◌, min, Bool, true, false, Some, None, Ok, Err, Option, sym, refl, ap, ◌∙◌, subst, inl, inr, add-one, arith}
+use Rattle.std.proofs.Common.{◌≡◌, ℕ, suc, ◌+◌, ◌-◌, ◌^◌, ◌<◌, ◌≤◌, min, Bool, true, false, Some, None, Ok, Err, Option, sym, refl, ap, ◌∙◌, subst, inl, inr, add-one, arith}
 use Rattle.theory.specs.declared.verdict.Unfit.TheVariants.{Late}
 use Rattle.theory.specs.Meaning.{Amounts, Rules, claim, last_mark}
 use Rattle.theory.specs.Verdict.{busy, look_below, found, walk, look}
@@ -83,15 +83,21 @@ module _ (m : Amounts) (l : Rules m) (w : ℕ) (b : Some w ≡ busy m) where
   pub look_over : (o : Option (ℕ × ℕ)) → o ≡ look_below m w → found w o ≡ look m
   look_over o e = ap (found w) e ∙ sym (look_at m w (sym b))
 
-pub look_first : (m : Amounts) → None ≡ look_below m 0
-unfolding look_below
-look_first m = refl
+-- the look from above: where the ticks below t are still ahead, it stands at t - 1
+module _ (m : Amounts) (t : ℕ) (o : Option (ℕ × ℕ)) (p : look_below m t ≡ o) where
+  pub look_ended : t ≤ 0 → None ≡ o
+  unfolding look_below
+  look_ended h = let z : 0 ≡ t = omega arith in ap (look_below m) z ∙ p
 
-pub look_worse : (m : Amounts) (t c : ℕ) → true ≡ m.mark t → c ≡ claim m t → t < c → Some (t, c) ≡ look_below m (t + 1)
-look_worse m t c k e h = ap (λ x. Some (t, x)) e ∙ (sym (look_late m t (sym k) (omega arith)) ∙ ap (look_below m) (sym (add-one t)))
+  module _ (h : 0 < t) where
+    before : look_below m (suc (t - 1)) ≡ o
+    before = let e : suc (t - 1) ≡ t = omega arith in ap (look_below m) e ∙ p
 
-pub look_same : (m : Amounts) (t c : ℕ) (o : Option (ℕ × ℕ)) → o ≡ look_below m t → c ≡ claim m t → c ≤ t → o ≡ look_below m (t + 1)
-look_same m t c o p e h = p ∙ (sym (look_still m t (omega arith)) ∙ ap (look_below m) (sym (add-one t)))
+    pub look_worse : (c : ℕ) → true ≡ m.mark (t - 1) → c ≡ claim m (t - 1) → t - 1 < c → Some (t - 1, c) ≡ o
+    look_worse c k e g = ap (λ x. Some (t - 1, x)) e ∙ sym (look_late m (t - 1) (sym k) (omega arith)) ∙ before
 
-pub look_unmarked : (m : Amounts) (t : ℕ) (o : Option (ℕ × ℕ)) → o ≡ look_below m t → false ≡ m.mark t → o ≡ look_below m (t + 1)
-look_unmarked m t o p k = p ∙ (sym (look_quiet m t (sym k)) ∙ ap (look_below m) (sym (add-one t)))
+    pub look_same : (c : ℕ) → c ≡ claim m (t - 1) → c ≤ t - 1 → look_below m (t - 1) ≡ o
+    look_same c e g = sym (look_still m (t - 1) (omega arith)) ∙ before
+
+    pub look_unmarked : false ≡ m.mark (t - 1) → look_below m (t - 1) ≡ o
+    look_unmarked k = sym (look_quiet m (t - 1) (sym k)) ∙ before

@@ -11,15 +11,11 @@ pub fn audit<L: Load>(load: &L) -> Result<u64, Unfit>
     ensures { result ≡ look (L.Load.meaning load.now).amounts }
 {
     let busy = busy_period(load).ok_or(Unfit::NotClosed)?;
-    let mut worst = None;
-    for t in 0..busy {
+    for t in (0..busy).rev() {
         let claimed = claim_at(load, t);
         if claimed > t && is_mark(load, t) {
-            worst = Some((t, claimed));
+            return Err(Unfit::Late((t, claimed)));
         }
     }
-    match worst {
-        Some(late) => Err(Unfit::Late(late)),
-        None => Ok(busy),
-    }
+    Ok(busy)
 }

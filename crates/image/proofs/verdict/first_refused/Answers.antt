@@ -3,27 +3,21 @@ use Rattle.std.proofs.Common.{◌≡◌, ℕ, ◌+◌, ◌*◌, length, get_or, 
 use lib.ListN.{length-map}
 use Rattle.std.proofs.Math.ListN.{get_or-append}
 use Rattle.theory.specs.declared.verdict.Unfit.{Unfit}
-use Rattle.theory.specs.Meaning.{Laws}
 use Rattle.theory.specs.Beside.{beside}
 use Rattle.theory.specs.Verdict.{walk}
 use Rattle.theory.proofs.Walk.{walk_is_look}
-use Rattle.loads.specs.declared.list.TaskList.{TaskList}
 use Rattle.loads.specs.declared.train.RampTrain.{RampTrain}
 use Rattle.loads.specs.Params.{TaskParams, task}
 use Rattle.loads.specs.Making.{task_params}
 use Rattle.loads.specs.Tasks.{tasks_meaning}
 use Rattle.loads.specs.Lists.{tasks_of}
 use Rattle.loads.specs.Train.{frames_of, train_meaning}
-use Rattle.loads.specs.ListRanges.{list_ranged, list_few}
+use Rattle.loads.specs.ListRanges.{list_few}
 use Rattle.loads.proofs.Packing.{one_more_held}
-use Rattle.loads.specs.TrainLaws.{train_laws}
-use Rattle.loads.specs.TrainRanges.{frames_ranged}
-use Rattle.format.proofs.Prefixes.{laws_of, turn_on, turn_refused}
+use Rattle.format.proofs.Prefixes.{turn_on, turn_refused}
+use Rattle.image.proofs.Judging.{laws_beside}
 use Rattle.image.proofs.verdict.first_refused.Goals as goal
 use Rattle.image.proofs.verdict.first_refused.Goals.{After-unwrap, After-judge}
-
-laws : (l : TaskList) (train : RampTrain) → Laws (beside (tasks_meaning (tasks_of l)) (train_meaning (frames_of train)))
-laws l train = laws_of (train_meaning (frames_of train)) (train_laws (frames_of train) (frames_ranged train)) (tasks_of l) (list_ranged l)
 
 none : TaskParams
 none = task 0 0 0 0 0
@@ -53,7 +47,7 @@ loop-i-preserved c =
       c.loop-i.invariant.0,
       held d,
       turn_on (train_meaning (frames_of c.args.plan.now.second)) (tasks_of c.args.plan.now.first) (tasks_of c.push.new.self) c.loop-i.i none (omega (arith, n, c.loop-i-test.true)) (held d)
-          (laws c.push.new.self c.args.plan.now.second) c.loop-i.invariant.2 c.in_default.field-0 (sym c.in_default.is ∙ walked d),
+          (laws_beside c.push.new.self c.args.plan.now.second) c.loop-i.invariant.2 c.in_default.field-0 (sym c.in_default.is ∙ walked d),
     )
 
 pub returns-in-Err : goal.returns-in-Err
@@ -61,13 +55,13 @@ returns-in-Err c =
     let d = (goal.at.returns-in-Err c).After-judge in
     let n = one_less (goal.at.returns-in-Err c).After-unwrap in
     turn_refused (train_meaning (frames_of c.args.plan.now.second)) (tasks_of c.args.plan.now.first) (tasks_of c.push.new.self) c.loop-i.i none (omega (arith, n, c.loop-i-test.true)) (held d)
-    (laws c.push.new.self c.args.plan.now.second) c.loop-i.invariant.2 c.in-Err.early (sym c.in-Err.is ∙ walked d)
+    (laws_beside c.push.new.self c.args.plan.now.second) c.loop-i.invariant.2 c.in-Err.early (sym c.in-Err.is ∙ walked d)
 
 pub returns : goal.returns
 returns c =
     let ps = tasks_of c.args.plan.now.first in
     let train = c.args.plan.now.second in
-    let l = laws c.args.plan.now.first train in
+    let l = laws_beside c.args.plan.now.first train in
     let n = one_less (goal.at.returns c).After-unwrap in
     let m : c.loop-i.i ≡ length c.unwrap.result.1.now = omega (arith, c.loop-i-test.false, c.loop-i.auto.i-end) in
     turn_refused (train_meaning (frames_of train)) ps ps c.loop-i.i none (omega arith) (sym (take_all (c.loop-i.i + 1) ps (omega arith))) l c.loop-i.invariant.2

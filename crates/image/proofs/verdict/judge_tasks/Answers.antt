@@ -1,34 +1,20 @@
 -- Accepted together, or told by the first that is refused.
 use Rattle.std.proofs.Common.{◌∙◌}
-use Rattle.theory.specs.Meaning.{Laws}
-use Rattle.theory.specs.Beside.{beside}
 use Rattle.theory.proofs.Verdicts.{accepted_ok}
 use Rattle.theory.proofs.Walk.{walk_is_look}
-use Rattle.loads.specs.declared.list.TaskList.{TaskList}
-use Rattle.loads.specs.declared.train.RampTrain.{RampTrain}
-use Rattle.loads.specs.Tasks.{tasks_meaning}
 use Rattle.loads.specs.Lists.{tasks_of}
 use Rattle.loads.specs.Train.{frames_of, train_meaning}
 use Rattle.loads.specs.ListRanges.{list_ranged}
-use Rattle.loads.specs.TrainLaws.{train_laws}
-use Rattle.loads.specs.TrainRanges.{frames_ranged}
-use Rattle.format.proofs.Prefixes.{laws_of}
-use Rattle.image.proofs.Judging.{together}
+use Rattle.image.proofs.Judging.{together, laws_of_train, laws_beside}
 use Rattle.image.proofs.verdict.judge_tasks.Goals as goal
 
-laws_of_train : (train : RampTrain) → Laws (train_meaning (frames_of train))
-laws_of_train train = train_laws (frames_of train) (frames_ranged train)
-
-laws : (tasks : TaskList) (train : RampTrain) → Laws (beside (tasks_meaning (tasks_of tasks)) (train_meaning (frames_of train)))
-laws tasks train = laws_of (train_meaning (frames_of train)) (laws_of_train train) (tasks_of tasks) (list_ranged tasks)
-
 pub first_refused-early-requires-clause-refused : goal.first_refused-early-requires-clause-refused
-first_refused-early-requires-clause-refused c = c.in-Err.ensures ∙ walk_is_look _ (laws c.args.plan.now.first c.args.plan.now.second).rules
+first_refused-early-requires-clause-refused c = c.in-Err.ensures ∙ walk_is_look _ (laws_beside c.args.plan.now.first c.args.plan.now.second).rules
 
 pub returns-in-Ok : goal.returns-in-Ok
 returns-in-Ok c =
     let e = c.in-Ok.ensures in
     record {
       says = together (train_meaning (frames_of c.args.plan.now.second)) (laws_of_train c.args.plan.now.second) (tasks_of c.args.plan.now.first) (list_ranged c.args.plan.now.first) c.in-Ok.busy e;
-      safe = λ w p. accepted_ok _ (laws c.args.plan.now.first c.args.plan.now.second).rules c.in-Ok.busy e;
+      safe = λ w p. accepted_ok _ (laws_beside c.args.plan.now.first c.args.plan.now.second).rules c.in-Ok.busy e;
     }

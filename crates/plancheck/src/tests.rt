@@ -18,10 +18,8 @@ impl<'a> Read for Pieces<'a> {
     ghost remaining = { λ s. Some s.left.now };
 
     fn read(&mut self, buf: &mut [u8]) -> io::Result<usize> {
-        let n = self.left.len().min(buf.len()).min(self.most.max(1));
-        buf[..n].copy_from_slice(&self.left[..n]);
-        self.left = &self.left[n..];
-        Ok(n)
+        let most = buf.len().min(self.most.max(1));
+        self.left.read(&mut buf[..most])
     }
 }
 

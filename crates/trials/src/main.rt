@@ -17,13 +17,15 @@ use std::io::{BufRead, BufReader};
 fn report(rt: &HostRuntime, image: &[u8]) -> io::Result<()> {
     let outcome = verdict(image);
     rt.print(outcome)?;
-    match outcome {
-        Outcome::Yes(_) => match comes_back(image) {
-            Ok(true) => println!(rt; "written back"),
-            _ => println!(rt; "not written back"),
-        },
-        _ => Ok(()),
+    if let Outcome::Yes(_) = outcome {
+        let not = if comes_back(image) == Ok(true) {
+            ""
+        } else {
+            "not "
+        };
+        println!(rt; "{not}written back")?;
     }
+    Ok(())
 }
 
 fn main(rt: HostRuntime) -> io::Result<()> {

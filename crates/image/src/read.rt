@@ -51,7 +51,7 @@ pub(crate) fn number(bytes: &[u8], i: usize) -> u32
     u32::from_be_bytes(field(bytes, i))
 }
 
-/// The frame in a record, or why it is not made.
+/// The frame in a record, or why it is not made. It is no `TryFrom`, as `made_task` is none.
 pub(crate) fn made_frame(bytes: &[u8; FRAME]) -> Result<Frame, Refusal>
     ensures { frame_made result ≡ made_frame (frame_in bytes.now) }
 {

@@ -19,7 +19,7 @@ use plan::plan::Plan;
 use theory::load::Load;
 
 /// A lent buffer, and where the next byte goes. The library's `Write` for a buffer can fail, and does not say whose
-/// buffer it is.
+/// buffer it is. Each method says that the buffer stays the same one, which is a fact about the call and not the writer.
 #[derive(Drop)]
 struct Writer<'a> {
     out: &'a mut [u8],
@@ -66,7 +66,7 @@ impl<'a> Writer<'a> {
         self.put(&e.task.section().to_be_bytes());
     }
 
-    /// Writes the tasks of a plan by rising channel.
+    /// Writes the tasks of a plan by rising channel: over the channels, since a plan lends what they hold one by one.
     fn put_tasks<G: Load>(&mut self, plan: &Plan<G>)
         requires { self.old.at + length (tasks_bytes 0 (ledger plan.now)) ≤ length self.old.out.now }
         ensures same_buffer { self.new.out.ghost_name ≡ self.old.out.ghost_name }

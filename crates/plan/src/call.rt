@@ -1,7 +1,7 @@
 use loads::entry::Entry;
 use loads::refusal::Refusal;
 
-/// One call on a plan, with its arguments.
+/// One call on a plan, with its arguments: channel and entry are two, as they are of the plan's own calls.
 #[derive(Clone, Copy)]
 pub enum Call {
     /// Puts label and task into an empty channel.

@@ -42,7 +42,7 @@ fn both_say<L: Load>(rt: &impl Abort, load: &L, verdict: Result<u64, Refusal>) {
     assert_eq!(rt; audit(load).map_err(Refusal::from), verdict, "by audit");
 }
 
-/// What an answer says, in a word, or the refusal.
+/// What an answer says, in a word, or the refusal: the expected answers below are written so.
 fn said(answer: Answer) -> Result<&'static str, Refusal> {
     answer.map(|done| match done {
         Done::Granted => "granted",

@@ -14,6 +14,7 @@ use loads::refusal::Refusal;
 use loads::table::Table;
 use theory::load::Load;
 
+// Each contract says again that the guest stays: that is a fact about the call, and no invariant of a plan.
 impl<G: Load> Plan<G> {
     /// A plan over any guest, accepted or not, with no tasks.
     pub fn make(load: G) -> Plan<G>

@@ -44,7 +44,7 @@ fn admit_one<G: Load>(plan: &mut Plan<G>, channel: u8, entry: Entry) -> Result<(
     answers[0].map(|_| ())
 }
 
-/// Admits the task of a record that has passed its checks.
+/// Admits the task of a record that has passed its checks, which is a premise as in `add_task`.
 fn enter<G: Load>(plan: &mut Plan<G>, bytes: &[u8; TASK], at: usize) -> Result<(), PlanFault>
     ensures says { task_refusal (params_in bytes.now) ≡ None
         → (result, ledger plan.new) ≡ one_entered (G.Load.meaning (guest plan.old)) at (task_in bytes.now) (ledger plan.old) }
@@ -56,7 +56,8 @@ fn enter<G: Load>(plan: &mut Plan<G>, bytes: &[u8; TASK], at: usize) -> Result<(
 }
 
 /// Admits the tasks of an image into a plan, one after another, up to the first that is refused; the plan keeps the
-/// tasks of earlier records. The whole image is checked first.
+/// tasks of earlier records. The whole image is checked first. A plan does not carry the list of its calls, so `kept`
+/// speaks of the caller's; and that the guest stays is a fact about the call.
 pub fn fill<G: Load>(plan: &mut Plan<G>, image: &[u8]) -> Result<(), PlanFault>
     ensures says { (result, ledger plan.new) ≡ filled (G.Load.meaning (guest plan.old)) (decode image.now) (ledger plan.old) }
     ensures guest { guest plan.new ≡ guest plan.old }

@@ -12,7 +12,8 @@ use format::fault::RecordFault;
 use format::part::{FRAME, Part};
 use loads::train::RampTrain;
 
-/// Adds the frame of a record that has passed its checks at the end of a train with room for it.
+/// Adds the frame of a record that has passed its checks at the end of a train with room for it. Both are premises: the
+/// parts of an image are checked by their bytes alone.
 fn add_frame(train: &mut RampTrain, bytes: &[u8; FRAME], at: usize) -> Result<(), RecordFault>
     ensures { frame_refusal (frame_in bytes.now) ≡ None → length (frames_of train.old) < 16
         → FramesThen result (frames_of train.new) (frames_of train.old ++ (frame_in bytes.now ∷ [])) }

@@ -26,7 +26,7 @@ impl Outcome {
     }
 }
 
-/// The outcome of a busy period or of a fault.
+/// The outcome of a busy period or of a fault: a match, which says what both become.
 impl From<Result<u64, PlanFault>> for Outcome {
     ghost from_gives = { λ r o. o ≡ told r };
 

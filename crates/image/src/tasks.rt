@@ -10,7 +10,8 @@ use crate::read_task::made_task;
 use format::part::{Part, TASK};
 use loads::list::TaskList;
 
-/// Adds the task of a record that has passed its checks at the end of a list with room for it.
+/// Adds the task of a record that has passed its checks at the end of a list with room for it. Both are premises: the
+/// parts of an image are checked by their bytes alone.
 fn add_task(tasks: &mut TaskList, bytes: &[u8; TASK])
     ensures { task_refusal (params_in bytes.now) ≡ None → length (tasks_of tasks.old) < 64
         → tasks_of tasks.new ≡ tasks_of tasks.old ++ (params_in bytes.now ∷ []) }
@@ -26,7 +27,7 @@ pub(crate) fn add_tasks(tasks: &mut TaskList, image: &[u8])
         → tasks_of tasks.new ≡ params (tasks_in rs) }
 {
     for part in Parts::new(image) {
-        // In two steps: with one pattern for both, the proof does not know of the other case that it is no task.
+        // In two steps: with one pattern for both, the proof does not know that the other case is no task.
         let Ok(part) = part else {
             return;
         };

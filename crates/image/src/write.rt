@@ -19,7 +19,7 @@ use plan::plan::Plan;
 use theory::load::Load;
 
 /// A lent buffer, and where the next byte goes. The library's `Write` for a buffer can fail, and does not say whose
-/// buffer it is. Each method says that the buffer stays the same one, which is a fact about the call and not the writer.
+/// buffer it is. Each method says that the buffer stays the same one: that is a fact about the call.
 #[derive(Drop)]
 struct Writer<'a> {
     out: &'a mut [u8],
@@ -103,7 +103,8 @@ fn tasks_len<G: Load>(plan: &Plan<G>) -> usize
 }
 
 /// Writes the image of a plan over a train into a lent buffer and gives its length; later bytes stay. Where the buffer
-/// is shorter than the image, it refuses with 17 and writes nothing.
+/// is shorter than the image, it refuses with 17 and writes nothing. A plan does not carry the list of its calls, so
+/// `back` speaks of the caller's.
 pub fn write<G: Load>(plan: &Plan<G>, train: &RampTrain, out: &mut [u8]) -> Result<usize, Refusal>
     ensures says { (result, out.new) ≡ written (encode (ledger plan.now) (frames_of train.now)) out.old }
     ensures back { (before : List a_call) → ledger plan.now ≡ after (G.Load.meaning (guest plan.now)) blank before

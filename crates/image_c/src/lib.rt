@@ -8,7 +8,7 @@ ghost use Rattle.image.specs.Verdict.{judged, told, code_of};
 use image::verdict;
 
 /// The verdict of the first 4,096 bytes of an image as one number, for a host in C: 0 for yes, 11 for late, else the
-/// refusal's number.
+/// refusal's number. A crate is a library or a static library, so the call of `image` stands here again.
 #[unsafe(no_mangle)]
 pub extern "C" fn lukwaizo_check(image: &[u8]) -> u32
     ensures { result ≡ code_of (told (judged (take 4096 image.now))) }

@@ -3,8 +3,8 @@ ghost use Rattle.std.specs.Prelude.{◌≡◌, ◌≤◌, ⊤, length};
 use std::alloc::AllocError;
 
 /// At most N values one after another, in fixed memory: those of the first `count` places. The kit's `ArrayVec` is not
-/// `Copy` and wants a default value, so it does not serve here. Nor has it a model: a `Copy` type with one would have to
-/// give back what stands in the places not in use.
+/// `Copy` and wants a default value, so it does not serve here. Nor has this one a model: a `Copy` type with a model has
+/// to give back what stands in the places not in use.
 #[derive(Copy, Drop)]
 pub(crate) struct FixedVec<T, const N: usize> {
     items: [T; N],

@@ -17,7 +17,7 @@ impl Slot {
     }
 }
 
-/// Sixty-four elements, of which one can be lent to be changed.
+/// Sixty-four elements, in place since nothing is on the heap; one can be lent to be changed.
 #[derive(Drop)]
 pub struct Table<T> {
     slots: [T; 64],

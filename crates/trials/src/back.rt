@@ -16,7 +16,7 @@ pub(crate) fn comes_back(image: &[u8]) -> Result<bool, PlanFault> {
     take_frames(&mut train, image)?;
     let mut plan = Plan::make(train);
     fill(&mut plan, image)?;
-    // an array, since `write` takes a lent buffer
+    // An array, since `write` takes a lent buffer.
     let mut out = [0u8; LARGEST];
     Ok(write(&plan, &train, &mut out).is_ok_and(|n| out.get(..n) == Some(image)))
 }

@@ -20,7 +20,7 @@ impl Frame {
     }
 
     /// The frame with the least numbers; it fills the places of a train that are not in use. It is no `Default`, which
-    /// everyone could call: no frame is what one means by none given.
+    /// everyone could call: there is no frame that one would expect where none is given.
     pub(crate) fn least() -> Frame
         ensures { frame_params result ≡ frame 1 1 1 }
     {

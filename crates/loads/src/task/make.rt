@@ -35,7 +35,7 @@ impl Task {
     }
 
     /// The task with the least numbers; it fills the places of a list that are not in use. It is no `Default`, which
-    /// everyone could call: no task is what one means by none given.
+    /// everyone could call: there is no task that one would expect where none is given.
     pub(crate) fn least() -> Task
         ensures { task_params result ≡ task 1 1 1 0 0 }
     {

@@ -38,6 +38,7 @@ impl RampTrain {
         let mut rests = [FrameRest::least(); 16];
         let mut whole = 0;
         for (i, f) in frames.iter().enumerate() {
+            // Quotient and rest of one division: a function over a closure would fill only the other two questions' rests.
             let time = (t + 1).saturating_sub(u64::from(f.deadline()));
             whole += u64::from(f.cost()) * (time / round);
             // By index: what is written through `iter_mut` a proof does not know afterwards, and a push takes longer.

@@ -2,8 +2,8 @@ ghost use Rattle.std.specs.Prelude.{◌≤◌, length};
 
 use super::rest::FrameRest;
 
-/// At most sixteen frames with their rests, released one after another, each as soon as the gaps allow. Each sum over them
-/// is another, and its bound is said where it leaves a function.
+/// At most sixteen frames with their rests, released one after another, each as soon as the gaps allow. Each sum over
+/// them is another, and its bound is said where it leaves a function. `Rounds::last_at` says why that goes round anew.
 #[derive(Clone, Copy)]
 pub(crate) struct Run<'a> {
     pub(crate) frames: &'a [FrameRest],

@@ -13,7 +13,8 @@ impl<G: Load> Plan<G> {
     ///
     /// This is the call that carries the plan's promise: whatever calls the plan has undergone since its making,
     /// and whatever calls are handed in, the answers are the ledger's, the channels are the ledger's, what late
-    /// and granted say is exact, and over an accepted guest no permitted job is ever late (`Kept`).
+    /// and granted say is exact, and over an accepted guest no permitted job is ever late (`Kept`). A plan does not
+    /// carry the list of its calls, so `kept` speaks of the caller's. Calls and answers are the caller's memory.
     pub fn carry_out(&mut self, calls: &[Call], answers: &mut [Answer]) -> usize
         ensures count { result ≡ min (length calls.now) (length answers.old) }
         ensures guest { guest self.new ≡ guest self.old }

@@ -23,7 +23,7 @@ abbrev pub tasks : ℕ → Channels → List TaskRec
 tasks c [] = []
 tasks c (o ∷ l) = put_rec c o (tasks (suc c) l)
 
--- Tasks come first, by rising channel, then the frames.
+-- The records of a ledger over frames: the tasks first, by rising channel, then the frames.
 abbrev pub contents : Channels → List FrameParams → List Rec
 contents l fs = map task_rec (tasks 0 l) ++ map frame_rec fs
 

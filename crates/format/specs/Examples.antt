@@ -9,15 +9,16 @@ use Rattle.format.specs.Records.{Rec, TaskRec, task_rec, frame_rec}
 use Rattle.format.specs.Decode.{decode}
 use Rattle.format.specs.Encode.{image}
 
--- The number and the offset of the first fault, and (0, 0) where there is none.
+-- The number and the offset of a refusal.
 abbrev pub numbered : Refusal × ℕ → ℕ × ℕ
 numbered (r, at) = (number r, at)
 
+-- Those of the first fault, and (0, 0) where there is none.
 abbrev pub first_fault : Result (List Rec) RecordFault → ℕ × ℕ
 first_fault (Ok rs) = (0, 0)
 first_fault (Err e) = numbered (record_fault e)
 
--- The same for the image of these records.
+-- The same of the image of these records, read.
 abbrev pub reads : List Rec → ℕ × ℕ
 reads rs = first_fault (decode (image rs))
 
@@ -33,6 +34,7 @@ sample l c = record { channel = c; content = record { label = l; params = task 4
 abbrev pub one : FrameParams
 one = frame 3 4 5
 
+-- The examples.
 pub record Examples : Type 0 where
   -- no bytes; an unknown mark; the end mark alone; a byte after it
   pub none : first_fault (decode []) ≡ (13, 0)

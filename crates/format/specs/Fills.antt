@@ -15,17 +15,17 @@ use Rattle.format.specs.declared.fault.PlanFault.TheVariants.{Record, Refused}
 use Rattle.format.specs.Records.{Rec, TaskRec, task_rec, frame_rec}
 use Rattle.format.specs.Decode.{frames_in}
 
--- Taking the frames: the answer, and the frames of the train then, which are those of the image, or those that
--- it held.
+-- Taking the frames: the answer, and the frames of the train then, which are those of the image, or after a refusal
+-- those that it held.
 abbrev pub taken : Result (List Rec) RecordFault → List FrameParams → Result (Unit {0}) RecordFault × List FrameParams
 taken (Ok rs) held = (Ok tt, frames_in rs)
 taken (Err e) held = (Err e, held)
 
--- Frames after an answer: it is granted, and they are these.
+-- The answer `r` is no refusal, and the frames `now` are the `wanted` ones.
 abbrev pub FramesThen : Result (Unit {0}) RecordFault → List FrameParams → List FrameParams → Type 0
 FramesThen r now wanted = (r ≡ Ok tt) × (now ≡ wanted)
 
--- The making of a task as a record's answer, with the offset of the record.
+-- What a making answers, its refusal told as the fault of the record at `at`.
 abbrev pub ranged : {A : Type 0} → ℕ → Result A Refusal → Result A RecordFault
 ranged at (Ok x) = Ok x
 ranged at (Err e) = Err (in_record.Refused e at)
@@ -35,7 +35,7 @@ abbrev pub content_made : List ℕ → Result TaskParams Refusal → Result Cont
 content_made label (Ok p) = Ok (record { label = label; params = p })
 content_made label (Err e) = Err e
 
--- An entry of the code, by plain numbers, where making it may have refused.
+-- The making of an entry by the code, the entry by plain numbers.
 abbrev pub entry_made : Result Entry RecordFault → Result Content RecordFault
 entry_made (Ok e) = Ok (content e)
 entry_made (Err e) = Err e

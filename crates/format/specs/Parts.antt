@@ -29,7 +29,7 @@ abbrev pub outcome : Result (List Rec) RecordFault → Result (Unit {0}) RecordF
 outcome (Ok rs) = Ok tt
 outcome (Err e) = Err e
 
--- What follows the end mark: nothing, or 14.
+-- After the end mark no parts follow; 14 where a byte does.
 abbrev pub behind : ℕ → List ℕ → List (Result Piece ImageFault)
 behind at [] = []
 behind at (x ∷ xs) = Err (Trailing at) ∷ []
@@ -46,7 +46,7 @@ pieces (suc n) at xs = elim (part at xs) [
   ]
 ]
 
--- Those of the image `xs` from a place on, if there is one.
+-- The parts of the image `xs` from this place on, and none where there is no place.
 abbrev pub pieces_from : List ℕ → Option ℕ → List (Result Piece ImageFault)
 pieces_from xs None = []
 pieces_from xs (Some at) = pieces (length xs) at (drop at xs)

@@ -21,16 +21,18 @@ pub data Rec : Type 0 where
   task_rec : TaskRec → Rec
   frame_rec : FrameParams → Rec
 
--- The bytes of a record, its mark with them: 37 for a task, 14 for a frame.
+-- The bytes of a task's record, its mark with them: 37.
 abbrev pub task_bytes : TaskRec → List ℕ
 task_bytes t =
     0x54 ∷ 0x4B ∷ t.content.label ++ (bytes 1 t.channel
     ++ (bytes 4 t.content.params.cost ++ (bytes 4 t.content.params.period ++ (bytes 4 t.content.params.deadline
     ++ (bytes 4 t.content.params.jitter ++ bytes 2 t.content.params.section)))))
 
+-- The bytes of a frame's record, its mark with them: 14.
 abbrev pub frame_bytes : FrameParams → List ℕ
 frame_bytes f = 0x52 ∷ 0x46 ∷ bytes 4 f.cost ++ (bytes 4 f.deadline ++ bytes 4 f.gap)
 
+-- The bytes of a record.
 abbrev pub rec_bytes : Rec → List ℕ
 rec_bytes (task_rec t) = task_bytes t
 rec_bytes (frame_rec f) = frame_bytes f
@@ -44,13 +46,15 @@ size (frame_rec f) = 14
 abbrev pub field : ℕ → ℕ → List ℕ → ℕ
 field i w xs = value (take w (drop i xs))
 
--- The record that bytes hold, its mark with them: the parameters of a task, the record of a task, and a frame.
+-- The parameters that the bytes of a task's record hold. The bytes begin with the mark, here and below.
 abbrev pub params_in : List ℕ → TaskParams
 params_in xs = record { cost = field 19 4 xs; period = field 23 4 xs; deadline = field 27 4 xs; jitter = field 31 4 xs; section = field 35 2 xs }
 
+-- The record of a task that bytes hold.
 abbrev pub task_in : List ℕ → TaskRec
 task_in xs = record { channel = field 18 1 xs; content = record { label = take 16 (drop 2 xs); params = params_in xs } }
 
+-- The frame that bytes hold.
 abbrev pub frame_in : List ℕ → FrameParams
 frame_in xs = record { cost = field 2 4 xs; deadline = field 6 4 xs; gap = field 10 4 xs }
 

@@ -17,10 +17,12 @@ pub record WritableContent (k : Content) : Type 0 where
   pub sixteen : length k.label ≡ 16
   pub ranges : TaskRanges k.params
 
+-- A channel that an image can hold: an empty one, or one with such a content.
 abbrev pub WritableChannel : Option Content → Type 0
 WritableChannel None = Unit {0}
 WritableChannel (Some k) = WritableContent k
 
+-- Channels that an image can hold, each of them.
 abbrev pub Writable : Channels → Type 0
 Writable l = All WritableChannel l
 

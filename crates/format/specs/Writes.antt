@@ -12,10 +12,11 @@ use Rattle.format.specs.Encode.{tasks}
 abbrev pub placed : List ℕ → ℕ → List ℕ → List ℕ
 placed out at xs = take at out ++ (xs ++ drop (at + length xs) out)
 
--- The bytes of the tasks from channel `c` on, and those of frames.
+-- The bytes of the tasks in the channels `l`, the first of which is channel `c`.
 abbrev pub tasks_bytes : ℕ → Channels → List ℕ
 tasks_bytes c l = flat_map rec_bytes (map task_rec (tasks c l))
 
+-- The bytes of frames.
 abbrev pub frames_bytes : List FrameParams → List ℕ
 frames_bytes fs = flat_map rec_bytes (map frame_rec fs)
 

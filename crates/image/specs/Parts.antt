@@ -5,5 +5,6 @@ use Rattle.format.specs.Decode.{Piece}
 use Rattle.format.specs.Parts.{pieces_from}
 use Rattle.image.specs.declared.parts.Parts.{Parts}
 
+-- The parts from where it stands on, by plain bytes, the fault last if there is one.
 abbrev pub rest : Parts → List (Result Piece ImageFault)
 rest s = pieces_from s.image.now s.at

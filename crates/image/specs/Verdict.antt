@@ -39,12 +39,13 @@ abbrev pub over_plan : Meaning → Result (Unit {0}) PlanFault × Channels → R
 over_plan g (Err e, l) = Err e
 over_plan g (Ok u, l) = Ok (busy_or_zero (busy (plan g l).amounts))
 
--- The verdict on the train alone comes first, refused at the first frame; then the tasks are admitted in order.
+-- The verdict on the records, by that on the train alone: its refusal stands at the first frame; else the tasks are
+-- admitted in order over the train.
 abbrev pub over_train : List Rec → Result ℕ Unfit → Result ℕ PlanFault
 over_train rs (Err u) = Err (Refused (refusal_of u) (first_frame 0 rs))
 over_train rs (Ok w) = over_plan (train_meaning (frames_in rs)) (entered (train_meaning (frames_in rs)) 0 rs blank)
 
--- The records are read first.
+-- The verdict on what was read: the fault, or that on the records, of which the train is judged first.
 abbrev pub over_records : Result (List Rec) RecordFault → Result ℕ PlanFault
 over_records (Err e) = Err (Record e)
 over_records (Ok rs) = over_train rs (walk (train_meaning (frames_in rs)).amounts)
@@ -53,12 +54,13 @@ over_records (Ok rs) = over_train rs (walk (train_meaning (frames_in rs)).amount
 unfoldable pub judged : List ℕ → Result ℕ PlanFault
 judged xs = over_records (decode xs)
 
--- The same verdict told by the tasks alone, where the train is accepted: why and where a task is refused first, or else
--- the busy period of all of them beside the train.
+-- The verdict by the first task that is refused: why and where it is; or if none is, the busy period of all of them
+-- beside the guest.
 abbrev pub by_first : Meaning → List TaskParams → Option (Unfit × ℕ) → Result ℕ PlanFault
 by_first g ps None = Ok (busy_or_zero (busy (beside (tasks_meaning ps) g).amounts))
 by_first g ps (Some p) = Err (Refused (refusal_of p.0) p.1)
 
+-- The same verdict as `over_train`, told by the tasks alone, where the train is accepted.
 abbrev pub one_by_one : Meaning → List TaskParams → Result ℕ PlanFault
 one_by_one g ps = by_first g ps (first_refused g 0 [] ps)
 

@@ -11,7 +11,7 @@ use Rattle.format.specs.Decode.{decode, tasks_in, task_piece, frame_piece}
 use Rattle.format.specs.Parts.{pieces_from}
 use Rattle.format.specs.Prefixes.{params}
 use Rattle.format.proofs.Front.{clash}
-use Rattle.format.proofs.Items.{Item, checks, decode_checks, more}
+use Rattle.format.proofs.Items.{Item, checks, decode_checks, first_passes}
 use Rattle.format.proofs.Rising.{lawful, task_passes, no_tasks}
 
 -- The tasks collected so far, with those of the records that are left, are those of the image; and there are no more of
@@ -42,7 +42,7 @@ module _ (xs : List ℕ) (old ps : List TaskParams) where
       → (task_refusal (params_in bytes) ≡ None → length ps < 64 → now ≡ ps ++ (params_in bytes ∷ [])) → Collects xs old now is
   task_collected bytes place is now k f n rs d =
       let s = k n rs d in
-      let m = more s.before (task_piece bytes place) is s.left s.reads in
+      let m = first_passes s.before (task_piece bytes place) is s.left s.reads in
       let w = task_passes s.before place (task_in bytes) m.passes in
       let e = f w.ranged (omega (arith, s.few, w.rising, w.channel)) in
       record {
@@ -70,7 +70,7 @@ module _ (xs : List ℕ) (old ps : List TaskParams) where
       → old ≡ [] → (rs : List Rec) → decode xs ≡ Ok rs → ps ≡ params (tasks_in rs)
   at_frame bytes place is k n rs d =
       let s = k n rs d in
-      let m = more s.before (frame_piece bytes place) is s.left s.reads in
+      let m = first_passes s.before (frame_piece bytes place) is s.left s.reads in
       let b = after s.before (frame_rec (frame_in bytes)) in
       sym (append-nil ps)
       ∙ ap (λ (ts : List TaskRec). ps ++ params ts) (sym (no_tasks b m.rest (omega arith) (lawful b is m.rest m.good)))

@@ -20,7 +20,7 @@ use Rattle.format.specs.Parts.{outcome, pieces_from}
 use Rattle.format.specs.Fills.{ranged, content_made, one_entered, entered, filled, Reached, KeptAgain}
 use Rattle.plan.proofs.Turns.{after_join, kept_more}
 use Rattle.format.proofs.Fields.{field_1}
-use Rattle.format.proofs.Items.{Item, Placed, all_placed, checks, was_ok, More, more}
+use Rattle.format.proofs.Items.{Item, Consecutive, all_consecutive, checks, was_ok, FirstPasses, first_passes}
 use Rattle.format.proofs.Rising.{task_passes}
 
 abbrev Done : Type 0
@@ -78,7 +78,7 @@ pub record Entering (g : Meaning) (xs : List ℕ) (l₀ l : Channels) (is : List
   pub at : ℕ
   pub left : List Rec
   pub reads : checks before is ≡ Ok left
-  pub placed : Placed at is
+  pub consecutive : Consecutive at is
   pub sum : entered g at left l ≡ filled g (decode xs) l₀
   pub reached : Reached g l₀ l
 
@@ -90,7 +90,7 @@ entering_start g xs l p =
       at = 0;
       left = w.0;
       reads = w.2;
-      placed = all_placed (length xs) 0 xs;
+      consecutive = all_consecutive (length xs) 0 xs;
       sum = ap (λ (x : Result (List Rec) RecordFault). filled g x l) (sym w.1);
       reached = ([], refl);
     }
@@ -119,19 +119,19 @@ module _ (g : Meaning) (xs : List ℕ) (l₀ l : Channels) where
   pub frame_passed : (bytes : List ℕ) (place : ℕ) (is : List Item) → Entering g xs l₀ l (Ok (frame_piece bytes place) ∷ is) → Entering g xs l₀ l is
   unfolding entered
   frame_passed bytes place is k =
-      let w = more k.before (frame_piece bytes place) is k.left k.reads in
-      record { before = _; at = k.at + 14; left = w.rest; reads = w.good; placed = k.placed.1; sum = ap (λ (rs : List Rec). entered g k.at rs l) (sym w.is_first) ∙ k.sum; reached = k.reached }
+      let w = first_passes k.before (frame_piece bytes place) is k.left k.reads in
+      record { before = _; at = k.at + 14; left = w.rest; reads = w.good; consecutive = k.consecutive.1; sum = ap (λ (rs : List Rec). entered g k.at rs l) (sym w.is_first) ∙ k.sum; reached = k.reached }
 
   module _ (bytes : List ℕ) (place : ℕ) (is : List Item) (k : Entering g xs l₀ l (Ok (task_piece bytes place) ∷ is)) where
-    next_of : More k.before (task_piece bytes place) is k.left
-    next_of = more k.before (task_piece bytes place) is k.left k.reads
+    next_of : FirstPasses k.before (task_piece bytes place) is k.left
+    next_of = first_passes k.before (task_piece bytes place) is k.left k.reads
 
     step_is : (d : Done) → (task_refusal (params_in bytes) ≡ None → d ≡ one_entered g place (task_in bytes) l)
         → onward g (place + 37) next_of.rest d ≡ filled g (decode xs) l₀
     step_is d f =
         let w = next_of in
         ap (onward g (place + 37) w.rest) (f (task_passes k.before place (task_in bytes) w.passes).ranged) ∙ entered_task g place w.rest l (task_in bytes)
-        ∙ (λ i. entered g (k.placed.0 i) (sym w.is_first i) l) ∙ k.sum
+        ∙ (λ i. entered g (k.consecutive.0 i) (sym w.is_first i) l) ∙ k.sum
 
     pub task_refused : (m : Channels) (e : PlanFault) → Says g bytes place l m (Err e)
         → ◌≡◌ {A = Result (Unit {0}) PlanFault × Channels} (Err e, m) (filled g (decode xs) l₀)
@@ -145,7 +145,7 @@ module _ (g : Meaning) (xs : List ℕ) (l₀ l : Channels) where
           at = place + 37;
           left = w.rest;
           reads = w.good;
-          placed = subst (λ (n : ℕ). Placed (n + 37) is) (sym k.placed.0) k.placed.1;
+          consecutive = subst (λ (n : ℕ). Consecutive (n + 37) is) (sym k.consecutive.0) k.consecutive.1;
           sum = step_is (Ok tt, m) f;
           reached = reached_more g l₀ l m k.reached r;
         }

@@ -56,10 +56,10 @@ pub part_rec : (at : ℕ) (r : Rec) (xs : List ℕ) → Fits r → part at (rec_
 part_rec at (task_rec t) xs h = part_task at t xs h
 part_rec at (frame_rec f) xs h = part_frame at f xs h
 
-marks : (a b : ℕ) (xs : List ℕ) → leb 2 (length xs) ≡ true → marked a b xs ≡ true → a ∷ b ∷ drop 2 xs ≡ xs
-marks a b [] l m = let k = leb-true 2 0 l in absurd (omega arith)
-marks a b (x ∷ []) l m = let k = leb-true 2 1 l in absurd (omega arith)
-marks a b (x ∷ y ∷ xs) l m =
+mark_stands : (a b : ℕ) (xs : List ℕ) → leb 2 (length xs) ≡ true → marked a b xs ≡ true → a ∷ b ∷ drop 2 xs ≡ xs
+mark_stands a b [] l m = let k = leb-true 2 0 l in absurd (omega arith)
+mark_stands a b (x ∷ []) l m = let k = leb-true 2 1 l in absurd (omega arith)
+mark_stands a b (x ∷ y ∷ xs) l m =
     let p = and_parts (eqb x a) (eqb y b) m in
     ap₂ (λ (u v : ℕ). u ∷ v ∷ xs) (sym (eqb-true x a p.0)) (sym (eqb-true y b p.1))
 
@@ -89,10 +89,10 @@ part_cases at xs P pt pf pn o p = go (leb 2 (length xs)) (marked 0x54 0x4B xs) (
         → P o
     go false b₂ b₃ b₄ b₅ b₆ e₁ e₂ e₃ e₄ e₅ e₆ k = never (Cut at) o k
     go true true false b₄ b₅ b₆ e₁ e₂ e₃ e₄ e₅ e₆ k = never (Cut at) o k
-    go true true true b₄ b₅ b₆ e₁ e₂ e₃ e₄ e₅ e₆ k = moved P o (Some (task_piece (take 37 xs) at)) k (pt (leb-true 37 (length xs) e₃) (marks 0x54 0x4B xs e₁ e₂))
+    go true true true b₄ b₅ b₆ e₁ e₂ e₃ e₄ e₅ e₆ k = moved P o (Some (task_piece (take 37 xs) at)) k (pt (leb-true 37 (length xs) e₃) (mark_stands 0x54 0x4B xs e₁ e₂))
     go true false b₃ true false b₆ e₁ e₂ e₃ e₄ e₅ e₆ k = never (Cut at) o k
-    go true false b₃ true true b₆ e₁ e₂ e₃ e₄ e₅ e₆ k = moved P o (Some (frame_piece (take 14 xs) at)) k (pf (leb-true 14 (length xs) e₅) (marks 0x52 0x46 xs e₁ e₄))
-    go true false b₃ false b₅ true e₁ e₂ e₃ e₄ e₅ e₆ k = moved P o None k (pn (leb-true 2 (length xs) e₁) (marks 0x45 0x4E xs e₁ e₆))
+    go true false b₃ true true b₆ e₁ e₂ e₃ e₄ e₅ e₆ k = moved P o (Some (frame_piece (take 14 xs) at)) k (pf (leb-true 14 (length xs) e₅) (mark_stands 0x52 0x46 xs e₁ e₄))
+    go true false b₃ false b₅ true e₁ e₂ e₃ e₄ e₅ e₆ k = moved P o None k (pn (leb-true 2 (length xs) e₁) (mark_stands 0x45 0x4E xs e₁ e₆))
     go true false b₃ false b₅ false e₁ e₂ e₃ e₄ e₅ e₆ k = never (UnknownMark at) o k
 
 pub part_stands : (at : ℕ) (xs : List ℕ) (o : Option Piece) → Bytes xs → part at xs ≡ Ok o → Stands xs o

@@ -15,19 +15,19 @@ abbrev pub Item : Type 0
 Item = Result Piece ImageFault
 
 -- What is known of what was read at the front.
-abbrev Known : ℕ → List ℕ → Option Piece → Type 0
-Known at xs None = 2 ≤ length xs
-Known at xs (Some p) = (offset p ≡ at) × (size (rec_in p) ≤ length xs) × (0 < size (rec_in p))
+abbrev Within : ℕ → List ℕ → Option Piece → Type 0
+Within at xs None = 2 ≤ length xs
+Within at xs (Some p) = (offset p ≡ at) × (size (rec_in p) ≤ length xs) × (0 < size (rec_in p))
 
-known : (at : ℕ) (xs : List ℕ) (o : Option Piece) → part at xs ≡ Ok o → Known at xs o
-known at xs o p = part_cases at xs (Known at xs) (λ l m. (refl, l, omega arith)) (λ l m. (refl, l, omega arith)) (λ l m. l) o p
+within : (at : ℕ) (xs : List ℕ) (o : Option Piece) → part at xs ≡ Ok o → Within at xs o
+within at xs o p = part_cases at xs (Within at xs) (λ l m. (refl, l, omega arith)) (λ l m. (refl, l, omega arith)) (λ l m. l) o p
 
 -- A part lies within the image, and the end mark too.
 pub part_within : (at : ℕ) (xs : List ℕ) (p : Piece) → Ok (Some p) ≡ part at (drop at xs) → at + size (rec_in p) ≤ length xs
-part_within at xs p e = let k = known at (drop at xs) (Some p) (sym e) in omega (arith, k.1, k.2, length-drop at xs)
+part_within at xs p e = let k = within at (drop at xs) (Some p) (sym e) in omega (arith, k.1, k.2, length-drop at xs)
 
 pub end_within : (at : ℕ) (xs : List ℕ) → Ok None ≡ part at (drop at xs) → at + 2 ≤ length xs
-end_within at xs e = omega (arith, known at (drop at xs) None (sym e), length-drop at xs)
+end_within at xs e = omega (arith, within at (drop at xs) None (sym e), length-drop at xs)
 
 -- One turn, by what stands at the front.
 abbrev turn : ℕ → ℕ → List ℕ → Read → List Item
@@ -47,7 +47,7 @@ pieces_more (suc n) (suc m) at xs h k = go (part at xs) refl (pieces_more n m)
     go (Err e) q ih = refl
     go (Ok None) q ih = refl
     go (Ok (Some p)) q ih =
-        let w = known at xs (Some p) q in
+        let w = within at xs (Some p) q in
         let l = length-drop (size (rec_in p)) xs in
         ap (λ (is : List Item). Ok p ∷ is) (ih (at + size (rec_in p)) (drop (size (rec_in p)) xs) (omega (arith, w.1, w.2, l)) (omega (arith, w.1, w.2, l)))
 
@@ -69,24 +69,24 @@ items_from xs at =
     go (Ok (Some p)) = ap (λ (ys : List ℕ). Ok p ∷ pieces (length xs) (at + size (rec_in p)) ys) (drop-drop (size (rec_in p)) at xs)
 
 -- The parts stand one after another.
-abbrev pub Placed : ℕ → List Item → Type 0
-Placed at [] = Unit {0}
-Placed at (Err e ∷ is) = Unit {0}
-Placed at (Ok p ∷ is) = (offset p ≡ at) × Placed (at + size (rec_in p)) is
+abbrev pub Consecutive : ℕ → List Item → Type 0
+Consecutive at [] = Unit {0}
+Consecutive at (Err e ∷ is) = Unit {0}
+Consecutive at (Ok p ∷ is) = (offset p ≡ at) × Consecutive (at + size (rec_in p)) is
 
-pub all_placed : (n at : ℕ) (xs : List ℕ) → Placed at (pieces n at xs)
+pub all_consecutive : (n at : ℕ) (xs : List ℕ) → Consecutive at (pieces n at xs)
 unfolding pieces
-all_placed zero at xs = tt
-all_placed (suc n) at xs = go (part at xs) refl (all_placed n)
+all_consecutive zero at xs = tt
+all_consecutive (suc n) at xs = go (part at xs) refl (all_consecutive n)
   where
-    at_last : (ys : List ℕ) → Placed at (behind (at + 2) ys)
+    at_last : (ys : List ℕ) → Consecutive at (behind (at + 2) ys)
     at_last [] = tt
     at_last (y ∷ ys) = tt
 
-    go : (x : Read) → part at xs ≡ x → ((i : ℕ) (ys : List ℕ) → Placed i (pieces n i ys)) → Placed at (turn n at xs x)
+    go : (x : Read) → part at xs ≡ x → ((i : ℕ) (ys : List ℕ) → Consecutive i (pieces n i ys)) → Consecutive at (turn n at xs x)
     go (Err e) q ih = tt
     go (Ok None) q ih = at_last (drop 2 xs)
-    go (Ok (Some p)) q ih = ((known at xs (Some p) q).0, ih (at + size (rec_in p)) (drop (size (rec_in p)) xs))
+    go (Ok (Some p)) q ih = ((within at xs (Some p) q).0, ih (at + size (rec_in p)) (drop (size (rec_in p)) xs))
 
 -- Nothing behind the end mark, or something.
 pub nothing_behind : (at : ℕ) (xs : List ℕ) → length xs ≤ at + 2 → behind (at + 2) (drop 2 (drop at xs)) ≡ []
@@ -126,7 +126,7 @@ records_checks (suc n) b at xs = go (part at xs) refl (records_checks n)
         at_last (y ∷ ys) = refl
     go (Ok (Some p)) q ih =
         let r = rec_in p in
-        let w = known at xs (Some p) q in
+        let w = within at xs (Some p) q in
         ap (λ (f : Before → AllRead). by_check r f (passed b at r)) (λ i c. ih c (at + size r) (drop (size r) xs) i)
         ∙ ap (λ (i : ℕ). by_check r (λ c. checks c (pieces n (at + size r) (drop (size r) xs))) (passed b i r)) (sym w.0)
 
@@ -143,27 +143,27 @@ was_ok xs p = let w = go (decode xs) p in (w.0, w.1, sym (decode_checks xs) ∙ 
     go (Err e) q = let z : ◌≡◌ {A = ℕ} 0 1 = cc in absurd (omega arith)
 
 -- The check goes on after a record that passes, and ends at one that does not.
-pub goes : (b c : Before) (p : Piece) (is : List Item) → Ok c ≡ passed b (offset p) (rec_in p) → outcome (checks b (Ok p ∷ is)) ≡ outcome (checks c is)
-goes b c p is e = sym (ap (λ (x : Result Before RecordFault). outcome (by_check (rec_in p) (λ d. checks d is) x)) e) ∙ go (checks c is)
+pub goes_on : (b c : Before) (p : Piece) (is : List Item) → Ok c ≡ passed b (offset p) (rec_in p) → outcome (checks b (Ok p ∷ is)) ≡ outcome (checks c is)
+goes_on b c p is e = sym (ap (λ (x : Result Before RecordFault). outcome (by_check (rec_in p) (λ d. checks d is) x)) e) ∙ go (checks c is)
   where
     go : (x : AllRead) → outcome (with_rest (rec_in p) x) ≡ outcome x
     go (Ok rs) = refl
     go (Err f) = refl
 
 -- Where all records pass: the first of them, and those after it.
-pub record More (b : Before) (p : Piece) (is : List Item) (rs : List Rec) : Type 0 where
+pub record FirstPasses (b : Before) (p : Piece) (is : List Item) (rs : List Rec) : Type 0 where
   pub rest : List Rec
   pub is_first : rs ≡ rec_in p ∷ rest
   pub passes : fault b (offset p) (rec_in p) ≡ None
   pub good : checks (after b (rec_in p)) is ≡ Ok rest
 
-pub more : (b : Before) (p : Piece) (is : List Item) (rs : List Rec) → checks b (Ok p ∷ is) ≡ Ok rs → More b p is rs
-more b p is rs e = go (fault b (offset p) (rec_in p)) refl e
+pub first_passes : (b : Before) (p : Piece) (is : List Item) (rs : List Rec) → checks b (Ok p ∷ is) ≡ Ok rs → FirstPasses b p is rs
+first_passes b p is rs e = go (fault b (offset p) (rec_in p)) refl e
   where
     rest_of : (x : AllRead) → with_rest (rec_in p) x ≡ Ok rs → (qs : List Rec) × (rs ≡ rec_in p ∷ qs) × (x ≡ Ok qs)
     rest_of (Ok qs) q = (qs, cc, refl)
     rest_of (Err f) q = clash f rs q
 
-    go : (o : Option RecordFault) → fault b (offset p) (rec_in p) ≡ o → by_check (rec_in p) (λ c. checks c is) (elim o [ Some f ↦ Err f | None ↦ Ok (after b (rec_in p)) ]) ≡ Ok rs → More b p is rs
+    go : (o : Option RecordFault) → fault b (offset p) (rec_in p) ≡ o → by_check (rec_in p) (λ c. checks c is) (elim o [ Some f ↦ Err f | None ↦ Ok (after b (rec_in p)) ]) ≡ Ok rs → FirstPasses b p is rs
     go (Some f) q k = clash f rs k
     go None q k = let r = rest_of (checks (after b (rec_in p)) is) k in record { rest = r.0; is_first = r.1; passes = q; good = r.2 }

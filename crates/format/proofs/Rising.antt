@@ -14,8 +14,8 @@ use Rattle.format.specs.Decode.{decode, tasks_in, rec_in}
 use Rattle.format.specs.Encode.{placed_in, tasks}
 use Rattle.format.specs.Parts.{offset, pieces_from}
 use Rattle.format.proofs.Front.{clash}
-use Rattle.format.proofs.Items.{Item, checks, decode_checks, more}
-use Rattle.format.proofs.TakingFrames.{out_none}
+use Rattle.format.proofs.Items.{Item, checks, decode_checks, first_passes}
+use Rattle.format.proofs.TakingFrames.{in_range}
 
 -- Each record passes after those before it.
 abbrev pub Lawful : Before → List Rec → Type 0
@@ -25,7 +25,7 @@ Lawful b (r ∷ rs) = ((at : ℕ) × (fault b at r ≡ None)) × Lawful (after b
 pub lawful : (b : Before) (is : List Item) (rs : List Rec) → checks b is ≡ Ok rs → Lawful b rs
 lawful b [] rs e = let q : [] ≡ rs = cc in subst (Lawful b) q tt
 lawful b (Err f ∷ is) rs e = clash (in_record.Image f) rs e
-lawful b (Ok p ∷ is) rs e = let m = more b p is rs e in subst (Lawful b) (sym m.is_first) ((offset p, m.passes), lawful (after b (rec_in p)) is m.rest m.good)
+lawful b (Ok p ∷ is) rs e = let m = first_passes b p is rs e in subst (Lawful b) (sym m.is_first) ((offset p, m.passes), lawful (after b (rec_in p)) is m.rest m.good)
 
 -- The records of an image that was read pass one after another.
 pub decoded_lawful : (xs : List ℕ) (rs : List Rec) → decode xs ≡ Ok rs → Lawful start rs
@@ -57,7 +57,7 @@ task_passes b at t p = go (good_label t.content.label) (leb t.channel 63) (leb b
       rising = leb-true b.least t.channel e₂;
       channel = leb-true t.channel 63 e₁;
       first = eqb-true b.frames 0 e₃;
-      ranged = out_none at (task_refusal t.content.params) q;
+      ranged = in_range at (task_refusal t.content.params) q;
     }
 
 pub no_tasks : (b : Before) (rs : List Rec) → 0 < b.frames → Lawful b rs → tasks_in rs ≡ []

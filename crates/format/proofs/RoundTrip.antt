@@ -21,9 +21,9 @@ use Rattle.format.proofs.RecordBytes.{Fits, length_rec}
 use Rattle.format.proofs.Front.{Read, AllRead, clash, Stands, rec_of_piece, part_rec, part_stands, checked, next, records_next}
 
 -- Reading back.
-abbrev Good : Before → List Rec → Type 0
-Good b [] = Unit {0}
-Good b (r ∷ rs) = Fits r × ((at : ℕ) → fault b at r ≡ None) × Good (after b r) rs
+abbrev Readable : Before → List Rec → Type 0
+Readable b [] = Unit {0}
+Readable b (r ∷ rs) = Fits r × ((at : ℕ) → fault b at r ≡ None) × Readable (after b r) rs
 
 image_more : (r : Rec) (rs : List Rec) → image (r ∷ rs) ≡ rec_bytes r ++ image rs
 image_more r rs = append_assoc (rec_bytes r) (flat_map rec_bytes rs) (0x45 ∷ 0x4E ∷ [])
@@ -32,7 +32,7 @@ part_end : (at : ℕ) → part at (image []) ≡ Ok None
 unfolding part
 part_end at = refl
 
-reads : (n : ℕ) (b : Before) (at : ℕ) (rs : List Rec) → Good b rs → length rs < n → records n b at (image rs) ≡ Ok rs
+reads : (n : ℕ) (b : Before) (at : ℕ) (rs : List Rec) → Readable b rs → length rs < n → records n b at (image rs) ≡ Ok rs
 reads zero b at rs g l = absurd (omega arith)
 reads (suc n) b at [] g l = records_next n b at (image []) ∙ ap (next n b at (image [])) (part_end at)
 reads (suc n) b at (r ∷ rs) g l =
@@ -49,44 +49,44 @@ some_bytes : (r : Rec) → 0 < length (rec_bytes r)
 some_bytes (task_rec t) = omega arith
 some_bytes (frame_rec f) = omega arith
 
-length_image : (rs : List Rec) → length rs < length (image rs)
-length_image [] = omega arith
-length_image (r ∷ rs) =
-    let k = length_image rs in
+image_longer : (rs : List Rec) → length rs < length (image rs)
+image_longer [] = omega arith
+image_longer (r ∷ rs) =
+    let k = image_longer rs in
     let p : length (image (r ∷ rs)) ≡ length (rec_bytes r) + length (image rs) = ap length (image_more r rs) ∙ length-append (rec_bytes r) (image rs) in
     let q = some_bytes r in
     omega arith
 
-task_fault : (b : Before) (c : ℕ) (k : Content) (at : ℕ) → b.least ≤ c → b.frames ≡ 0 → c < 64 → good_label k.label ≡ true → TaskRanges k.params → fault b at (task_rec (placed_in c k)) ≡ None
-task_fault b c k at h z m q r = grind (arith, nat_tests)
+no_task_fault : (b : Before) (c : ℕ) (k : Content) (at : ℕ) → b.least ≤ c → b.frames ≡ 0 → c < 64 → good_label k.label ≡ true → TaskRanges k.params → fault b at (task_rec (placed_in c k)) ≡ None
+no_task_fault b c k at h z m q r = grind (arith, nat_tests)
 
-frame_fault : (b : Before) (f : FrameParams) (at : ℕ) → b.frames < 16 → FrameRanges f → fault b at (frame_rec f) ≡ None
-frame_fault b f at h r = grind (arith, nat_tests)
+no_frame_fault : (b : Before) (f : FrameParams) (at : ℕ) → b.frames < 16 → FrameRanges f → fault b at (frame_rec f) ≡ None
+no_frame_fault b f at h r = grind (arith, nat_tests)
 
-good_frames : (b : Before) (fs : List FrameParams) → All FrameRanges fs → b.frames + length fs ≤ 16 → Good b (map frame_rec fs)
-good_frames b [] r h = tt
-good_frames b (f ∷ fs) r h =
+readable_frames : (b : Before) (fs : List FrameParams) → All FrameRanges fs → b.frames + length fs ≤ 16 → Readable b (map frame_rec fs)
+readable_frames b [] r h = tt
+readable_frames b (f ∷ fs) r h =
     let q = r.0 in
-    (record { cost = omega arith; deadline = omega arith; gap = omega arith }, (λ at. frame_fault b f at (omega arith) q), good_frames (after b (frame_rec f)) fs r.1 (omega arith))
+    (record { cost = omega arith; deadline = omega arith; gap = omega arith }, (λ at. no_frame_fault b f at (omega arith) q), readable_frames (after b (frame_rec f)) fs r.1 (omega arith))
 
-good_tasks : (b : Before) (c : ℕ) (l : Channels) (rest : List Rec) → b.least ≤ c → b.frames ≡ 0 → c + length l ≤ 64 → Writable l
-    → ((d : Before) → d.frames ≡ 0 → Good d rest) → Good b (map task_rec (tasks c l) ++ rest)
-good_tasks b c [] rest h k m q g = g b k
-good_tasks b c (None ∷ l) rest h k m q g = good_tasks b (suc c) l rest (omega arith) k (omega arith) q.1 g
-good_tasks b c (Some e ∷ l) rest h k m q g =
+readable_tasks : (b : Before) (c : ℕ) (l : Channels) (rest : List Rec) → b.least ≤ c → b.frames ≡ 0 → c + length l ≤ 64 → Writable l
+    → ((d : Before) → d.frames ≡ 0 → Readable d rest) → Readable b (map task_rec (tasks c l) ++ rest)
+readable_tasks b c [] rest h k m q g = g b k
+readable_tasks b c (None ∷ l) rest h k m q g = readable_tasks b (suc c) l rest (omega arith) k (omega arith) q.1 g
+readable_tasks b c (Some e ∷ l) rest h k m q g =
     let w = q.0 in
     let r = w.ranges in (
       record { label = w.sixteen; channel = omega arith; cost = omega arith; period = omega arith; deadline = omega arith; jitter = omega arith; section = omega arith },
-      (λ at. task_fault b c e at h k (omega arith) w.label r),
-      good_tasks (after b (task_rec (placed_in c e))) (suc c) l rest (omega arith) k (omega arith) q.1 g,
+      (λ at. no_task_fault b c e at h k (omega arith) w.label r),
+      readable_tasks (after b (task_rec (placed_in c e))) (suc c) l rest (omega arith) k (omega arith) q.1 g,
     )
 
 pub reads_back : (l : Channels) (fs : List FrameParams) → length l ≤ 64 → Writable l → length fs ≤ 16 → All FrameRanges fs → decode (encode l fs) ≡ Ok (contents l fs)
 unfolding decode
 reads_back l fs h q k r =
     reads (length (encode l fs)) start 0 (contents l fs)
-    (good_tasks start 0 l (map frame_rec fs) (omega arith) refl (omega arith) q (λ d e. good_frames d fs r (omega arith)))
-    (length_image (contents l fs))
+    (readable_tasks start 0 l (map frame_rec fs) (omega arith) refl (omega arith) q (λ d e. readable_frames d fs r (omega arith)))
+    (image_longer (contents l fs))
 
 -- Writing back.
 abbrev Written : ℕ → Type 0

@@ -13,11 +13,11 @@ use Rattle.format.specs.Decode.{decode, frames_in, task_piece, frame_piece}
 use Rattle.format.specs.Parts.{outcome, pieces_from}
 use Rattle.format.specs.Fills.{taken, FramesThen}
 use Rattle.format.proofs.Front.{AllRead}
-use Rattle.format.proofs.Items.{Item, checks, was_ok, More, more}
+use Rattle.format.proofs.Items.{Item, checks, was_ok, FirstPasses, first_passes}
 
-pub out_none : (at : ℕ) (o : Option Refusal) → out_of_range at o ≡ None → o ≡ None
-out_none at None p = refl
-out_none at (Some e) p = cc
+pub in_range : (at : ℕ) (o : Option Refusal) → out_of_range at o ≡ None → o ≡ None
+in_range at None p = refl
+in_range at (Some e) p = cc
 
 -- A frame that passes.
 frame_passes : (b : Before) (at : ℕ) (f : FrameParams) → fault b at (frame_rec f) ≡ None → (b.frames < 16) × (frame_refusal f ≡ None)
@@ -25,7 +25,7 @@ frame_passes b at f p = go (ltb b.frames 16) refl p
   where
     go : (t : Bool) → ltb b.frames 16 ≡ t → cond t (out_of_range at (frame_refusal f)) (Some (Refused TrainFull at)) ≡ None
         → (b.frames < 16) × (frame_refusal f ≡ None)
-    go true e q = (ltb-true b.frames 16 e, out_none at (frame_refusal f) q)
+    go true e q = (ltb-true b.frames 16 e, in_range at (frame_refusal f) q)
     go false e q = let z : ◌≡◌ {A = ℕ} 0 1 = cc in absurd (omega arith)
 
 -- The frames taken so far, with those that are left, are those of the image.
@@ -52,8 +52,8 @@ module _ (xs : List ℕ) (held fresh : List FrameParams) where
       }
 
   module _ (bytes : List ℕ) (place : ℕ) (is : List Item) (k : Taking xs held fresh (Ok (frame_piece bytes place) ∷ is)) where
-    next_of : More k.before (frame_piece bytes place) is k.left
-    next_of = more k.before (frame_piece bytes place) is k.left k.reads
+    next_of : FirstPasses k.before (frame_piece bytes place) is k.left
+    next_of = first_passes k.before (frame_piece bytes place) is k.left k.reads
 
     -- What adding the frame answers, and the frames then.
     added : {r : Result (Unit {0}) RecordFault} {now : List FrameParams}
@@ -80,7 +80,7 @@ module _ (xs : List ℕ) (held fresh : List FrameParams) where
 
   pub task_passed : (bytes : List ℕ) (place : ℕ) (is : List Item) → Taking xs held fresh (Ok (task_piece bytes place) ∷ is) → Taking xs held fresh is
   task_passed bytes place is k =
-      let w = more k.before (task_piece bytes place) is k.left k.reads in
+      let w = first_passes k.before (task_piece bytes place) is k.left k.reads in
       record {
         before = _;
         left = w.rest;

@@ -31,8 +31,8 @@ abbrev pub sample : List ℕ → ℕ → TaskRec
 sample l c = record { channel = c; content = record { label = l; params = task 4 10 7 1 2 } }
 
 -- A frame in range.
-abbrev pub one : FrameParams
-one = frame 3 4 5
+abbrev pub good_frame : FrameParams
+good_frame = frame 3 4 5
 
 -- The examples.
 pub record Examples : Type 0 where
@@ -42,16 +42,16 @@ pub record Examples : Type 0 where
   pub empty : decode (0x45 ∷ 0x4E ∷ []) ≡ Ok []
   pub trailing : first_fault (decode (0x45 ∷ 0x4E ∷ 0 ∷ [])) ≡ (14, 2)
   -- cut inside the second record, and before the end mark
-  pub cut : first_fault (decode (take 50 (image (task_rec (sample good 3) ∷ frame_rec one ∷ [])))) ≡ (13, 37)
-  pub unended : first_fault (decode (take 51 (image (task_rec (sample good 3) ∷ frame_rec one ∷ [])))) ≡ (13, 51)
+  pub cut : first_fault (decode (take 50 (image (task_rec (sample good 3) ∷ frame_rec good_frame ∷ [])))) ≡ (13, 37)
+  pub unended : first_fault (decode (take 51 (image (task_rec (sample good 3) ∷ frame_rec good_frame ∷ [])))) ≡ (13, 51)
   -- sixteen zeros as a label, before a channel above 63; a channel above 63; a channel twice; a task after a frame
   pub label : reads (task_rec (sample (replicate 16 0) 64) ∷ []) ≡ (15, 0)
   pub channel : reads (task_rec (sample good 63) ∷ task_rec (sample good 64) ∷ []) ≡ (7, 37)
   pub twice : reads (task_rec (sample good 5) ∷ task_rec (sample good 5) ∷ []) ≡ (16, 37)
-  pub late : reads (frame_rec one ∷ task_rec (sample good 5) ∷ []) ≡ (16, 14)
+  pub after_frame : reads (frame_rec good_frame ∷ task_rec (sample good 5) ∷ []) ≡ (16, 14)
   -- sixteen frames, and a seventeenth
-  pub sixteen : decode (image (replicate 16 (frame_rec one))) ≡ Ok (replicate 16 (frame_rec one))
-  pub seventeen : reads (replicate 17 (frame_rec one)) ≡ (6, 224)
+  pub sixteen : decode (image (replicate 16 (frame_rec good_frame))) ≡ Ok (replicate 16 (frame_rec good_frame))
+  pub seventeen : reads (replicate 17 (frame_rec good_frame)) ≡ (6, 224)
   -- numbers out of range: the cost comes before all others, the gap before the deadline
   pub cost : reads (frame_rec (frame 0 0 0) ∷ []) ≡ (1, 0)
   pub gap : reads (frame_rec (frame 1 0 10000001) ∷ []) ≡ (2, 0)

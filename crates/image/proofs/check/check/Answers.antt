@@ -2,7 +2,7 @@
 use Rattle.std.proofs.Common.{◌≡◌, List, ◌∷◌, Ok, sym, ap, ◌∙◌, rules}
 use Rattle.format.specs.Records.{start}
 use Rattle.format.specs.Parts.{piece, seen, outcome}
-use Rattle.format.proofs.Items.{Item, checks, decode_checks, goes}
+use Rattle.format.proofs.Items.{Item, checks, decode_checks, goes_on}
 use Rattle.image.specs.Parts.{rest}
 use Rattle.image.proofs.check.check.Goals as goal
 
@@ -17,6 +17,6 @@ pub loop-part-preserved : goal.loop-part-preserved
 loop-part-preserved c =
     let p = piece c.in_ok-part.field-0 in
     let e : rest c.loop-part.part-iterator ≡ Ok p ∷ rest c.next.new.self = c.in-Some.ensures.steps ∙ ap (λ x. seen x ∷ rest c.next.new.self) c.in_ok-part.was in
-    sym (goes c.loop-part.before c.in_ok-before.before p (rest c.next.new.self) c.in_ok-before.ensures)
+    sym (goes_on c.loop-part.before c.in_ok-before.before p (rest c.next.new.self) c.in_ok-before.ensures)
     ∙ sym (ap (λ (is : List Item). outcome (checks c.loop-part.before is)) e)
     ∙ c.loop-part.invariant

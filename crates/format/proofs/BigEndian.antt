@@ -20,6 +20,7 @@ pow_more w = pow-suc 256 w ∙ mul_comm (256 ^ w) 256
 pow_pos : (w : ℕ) → 0 < 256 ^ w
 pow_pos w = one-le-pow w 256 (omega arith)
 
+-- The bytes of a number that is too large for them hold its remainder.
 value_mod : (w n : ℕ) → value (bytes w n) ≡ n % 256 ^ w
 value_mod zero n = omega arith
 value_mod (suc w) n =

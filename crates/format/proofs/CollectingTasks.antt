@@ -23,7 +23,7 @@ pub record Collecting (rs : List Rec) (ps : List TaskParams) (is : List Item) : 
   pub sum : ps ++ params (tasks_in left) ≡ params (tasks_in rs)
   pub few : length ps ≤ before.least
 
--- This from a list on that held `old`, where that is empty.
+-- This is so where the list was empty at the start, which then held `old`, and the image was read.
 abbrev pub Collects : List ℕ → List TaskParams → List TaskParams → List Item → Type 0
 Collects xs old ps is = old ≡ [] → (rs : List Rec) → decode xs ≡ Ok rs → Collecting rs ps is
 

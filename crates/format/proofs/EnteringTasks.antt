@@ -68,7 +68,7 @@ module _ (g : Meaning) (bytes : List ℕ) (at : ℕ) (l m : Channels) (long : le
   entered_is (Err e) (Ok x) a p = absurd p
   entered_is (Err e) (Err f) a p = ap (λ (y : PlanFault). let d : Done = (Err y, m) in d) p ∙ entered_err e a
 
--- Calls after calls.
+-- What is reached by calls from a ledger that was reached is reached.
 pub reached_more : (g : Meaning) (l m n : Channels) → Reached g l m → Reached g m n → Reached g l n
 reached_more g l m n (ks, p) (js, q) = (ks ++ js, q ∙ ap (λ (x : Channels). after g x js) p ∙ sym (after_join g l ks js))
 
@@ -95,7 +95,7 @@ entering_start g xs l p =
       reached = ([], refl);
     }
 
--- The first step of entering.
+-- Entering the other records, by what entering the first answered.
 abbrev onward : Meaning → ℕ → List Rec → Done → Done
 onward g at rs d = elim d.0 [ Err e ↦ (Err e, d.1) | Ok u ↦ entered g at rs d.1 ]
 
@@ -150,6 +150,6 @@ module _ (g : Meaning) (xs : List ℕ) (l₀ l : Channels) where
           reached = reached_more g l₀ l m k.reached r;
         }
 
--- The promise stands after it.
+-- The plan's promise stands for a ledger that more calls have reached.
 pub kept_again : (g : Meaning) → Laws g → (l₀ l : Channels) → Reached g l₀ l → (before : List Call) → l₀ ≡ after g blank before → KeptAgain g before l
 kept_again g h l₀ l r before e = (r.0, kept_more g h before r.0 l (r.1 ∙ ap (λ (x : Channels). after g x r.0) e))

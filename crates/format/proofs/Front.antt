@@ -13,17 +13,19 @@ use Rattle.format.specs.Records.{Rec, task_rec, frame_rec, TaskRec, rec_bytes, t
 use Rattle.format.specs.Decode.{marked, whole, part, ended, with_rest, passed, records, Piece, task_piece, frame_piece, rec_in}
 use Rattle.format.proofs.RecordBytes.{task_written, frame_written, frame_back, TaskFits, FrameFits, Fits, length_rec, task_own, task_in_take, frame_in_take}
 
+-- What reading the part at the front answers.
 abbrev pub Read : Type 0
 Read = Result (Option Piece) ImageFault
 
+-- What reading all records answers.
 abbrev pub AllRead : Type 0
 AllRead = Result (List Rec) RecordFault
 
-pub clash : {A : Type 0} (e : RecordFault) (rs : List Rec) → ◌≡◌ {A = AllRead} (Err e) (Ok rs) → A
-clash e rs p = let z : ◌≡◌ {A = ℕ} 0 1 = cc in absurd (omega arith)
+-- No result is both a fault and a value.
+pub clash : {X E A : Type 0} (e : E) (x : X) → ◌≡◌ {A = Result X E} (Err e) (Ok x) → A
+clash e x p = let z : ◌≡◌ {A = ℕ} 0 1 = cc in absurd (omega arith)
 
--- The front of an image.
-
+-- The part of the image that a record is.
 abbrev pub piece_of : ℕ → Rec → Piece
 piece_of at (task_rec t) = task_piece (task_bytes t) at
 piece_of at (frame_rec f) = frame_piece (frame_bytes f) at
@@ -56,6 +58,7 @@ pub part_rec : (at : ℕ) (r : Rec) (xs : List ℕ) → Fits r → part at (rec_
 part_rec at (task_rec t) xs h = part_task at t xs h
 part_rec at (frame_rec f) xs h = part_frame at f xs h
 
+-- Bytes that pass the test of a mark begin with it.
 mark_stands : (a b : ℕ) (xs : List ℕ) → leb 2 (length xs) ≡ true → marked a b xs ≡ true → a ∷ b ∷ drop 2 xs ≡ xs
 mark_stands a b [] l m = let k = leb-true 2 0 l in absurd (omega arith)
 mark_stands a b (x ∷ []) l m = let k = leb-true 2 1 l in absurd (omega arith)
@@ -63,18 +66,15 @@ mark_stands a b (x ∷ y ∷ xs) l m =
     let p = and_parts (eqb x a) (eqb y b) m in
     ap₂ (λ (u v : ℕ). u ∷ v ∷ xs) (sym (eqb-true x a p.0)) (sym (eqb-true y b p.1))
 
--- What was read at the front stands there.
+-- What was read at the front stands there: its bytes and those after it are the bytes `xs`.
 abbrev pub Stands : List ℕ → Option Piece → Type 0
 Stands xs None = 0x45 ∷ 0x4E ∷ drop 2 xs ≡ xs
 Stands xs (Some p) = rec_bytes (rec_in p) ++ drop (size (rec_in p)) xs ≡ xs
 
-never : {A : Type 0} (e : ImageFault) (o : Option Piece) → ◌≡◌ {A = Read} (Err e) (Ok o) → A
-never e o p = let z : ◌≡◌ {A = ℕ} 0 1 = cc in absurd (omega arith)
-
 moved : (P : Option Piece → Type 0) (o q : Option Piece) → ◌≡◌ {A = Read} (Ok q) (Ok o) → P q → P o
 moved P o q p h = let e : q ≡ o = cc in subst P e h
 
--- What a part that was read is: by cases of the tests.
+-- What holds of a task, a frame and an end mark at the front holds of whatever was read there.
 pub part_cases : (at : ℕ) (xs : List ℕ) (P : Option Piece → Type 0)
     → (37 ≤ length xs → 0x54 ∷ 0x4B ∷ drop 2 xs ≡ xs → P (Some (task_piece (take 37 xs) at)))
     → (14 ≤ length xs → 0x52 ∷ 0x46 ∷ drop 2 xs ≡ xs → P (Some (frame_piece (take 14 xs) at)))
@@ -87,13 +87,13 @@ part_cases at xs P pt pf pn o p = go (leb 2 (length xs)) (marked 0x54 0x4B xs) (
         → leb 14 (length xs) ≡ b₅ → marked 0x45 0x4E xs ≡ b₆
         → ◌≡◌ {A = Read} (cond b₁ (cond b₂ (cond b₃ (Ok (Some (task_piece (take 37 xs) at))) (Err (Cut at))) (cond b₄ (cond b₅ (Ok (Some (frame_piece (take 14 xs) at))) (Err (Cut at))) (cond b₆ (Ok None) (Err (UnknownMark at))))) (Err (Cut at))) (Ok o)
         → P o
-    go false b₂ b₃ b₄ b₅ b₆ e₁ e₂ e₃ e₄ e₅ e₆ k = never (Cut at) o k
-    go true true false b₄ b₅ b₆ e₁ e₂ e₃ e₄ e₅ e₆ k = never (Cut at) o k
+    go false b₂ b₃ b₄ b₅ b₆ e₁ e₂ e₃ e₄ e₅ e₆ k = clash (Cut at) o k
+    go true true false b₄ b₅ b₆ e₁ e₂ e₃ e₄ e₅ e₆ k = clash (Cut at) o k
     go true true true b₄ b₅ b₆ e₁ e₂ e₃ e₄ e₅ e₆ k = moved P o (Some (task_piece (take 37 xs) at)) k (pt (leb-true 37 (length xs) e₃) (mark_stands 0x54 0x4B xs e₁ e₂))
-    go true false b₃ true false b₆ e₁ e₂ e₃ e₄ e₅ e₆ k = never (Cut at) o k
+    go true false b₃ true false b₆ e₁ e₂ e₃ e₄ e₅ e₆ k = clash (Cut at) o k
     go true false b₃ true true b₆ e₁ e₂ e₃ e₄ e₅ e₆ k = moved P o (Some (frame_piece (take 14 xs) at)) k (pf (leb-true 14 (length xs) e₅) (mark_stands 0x52 0x46 xs e₁ e₄))
     go true false b₃ false b₅ true e₁ e₂ e₃ e₄ e₅ e₆ k = moved P o None k (pn (leb-true 2 (length xs) e₁) (mark_stands 0x45 0x4E xs e₁ e₆))
-    go true false b₃ false b₅ false e₁ e₂ e₃ e₄ e₅ e₆ k = never (UnknownMark at) o k
+    go true false b₃ false b₅ false e₁ e₂ e₃ e₄ e₅ e₆ k = clash (UnknownMark at) o k
 
 pub part_stands : (at : ℕ) (xs : List ℕ) (o : Option Piece) → Bytes xs → part at xs ≡ Ok o → Stands xs o
 part_stands at xs o h p =
@@ -103,10 +103,11 @@ part_stands at xs o h p =
     (λ l m. m)
     o p
 
--- One step of the reading, by what stands at the front.
+-- The reading from a record on, by what its checks answer.
 abbrev pub checked : ℕ → ℕ → List ℕ → Rec → Result Before RecordFault → AllRead
 checked n at xs r x = elim x [ Err e ↦ Err e | Ok c ↦ with_rest r (records n c (at + size r) (drop (size r) xs)) ]
 
+-- One step of the reading, by what stands at the front.
 abbrev pub next : ℕ → Before → ℕ → List ℕ → Read → AllRead
 next n b at xs x = elim x [ Err e ↦ Err (Image e) | Ok o ↦ elim o [ None ↦ ended (at + 2) (drop 2 xs) | Some p ↦ checked n at xs (rec_in p) (passed b at (rec_in p)) ] ]
 

@@ -11,10 +11,11 @@ use Rattle.format.specs.Decode.{part, ended, with_rest, passed, records, decode,
 use Rattle.format.specs.Parts.{offset, outcome, behind, pieces, pieces_from}
 use Rattle.format.proofs.Front.{Read, AllRead, clash, next, part_cases}
 
+-- An item of the iterator over the parts, by plain bytes.
 abbrev pub Item : Type 0
 Item = Result Piece ImageFault
 
--- What is known of what was read at the front.
+-- What was read at the front lies within the bytes, and a part begins at `at` and is not empty.
 abbrev Within : ℕ → List ℕ → Option Piece → Type 0
 Within at xs None = 2 ≤ length xs
 Within at xs (Some p) = (offset p ≡ at) × (size (rec_in p) ≤ length xs) × (0 < size (rec_in p))
@@ -134,15 +135,15 @@ pub decode_checks : (xs : List ℕ) → decode xs ≡ checks start (pieces_from 
 unfolding decode
 decode_checks xs = records_checks (length xs) start 0 xs
 
--- By the check's answer.
+-- Where the check refuses nothing, the records were read.
 pub was_ok : (xs : List ℕ) → Ok tt ≡ outcome (decode xs) → (rs : List Rec) × (decode xs ≡ Ok rs) × (checks start (pieces_from xs (Some 0)) ≡ Ok rs)
 was_ok xs p = let w = go (decode xs) p in (w.0, w.1, sym (decode_checks xs) ∙ w.1)
   where
     go : (x : AllRead) → Ok tt ≡ outcome x → (rs : List Rec) × (x ≡ Ok rs)
     go (Ok rs) q = (rs, refl)
-    go (Err e) q = let z : ◌≡◌ {A = ℕ} 0 1 = cc in absurd (omega arith)
+    go (Err e) q = clash e tt (sym q)
 
--- The check goes on after a record that passes, and ends at one that does not.
+-- After a record that passes, the check goes on with the items after it.
 pub goes_on : (b c : Before) (p : Piece) (is : List Item) → Ok c ≡ passed b (offset p) (rec_in p) → outcome (checks b (Ok p ∷ is)) ≡ outcome (checks c is)
 goes_on b c p is e = sym (ap (λ (x : Result Before RecordFault). outcome (by_check (rec_in p) (λ d. checks d is) x)) e) ∙ go (checks c is)
   where
@@ -150,7 +151,7 @@ goes_on b c p is e = sym (ap (λ (x : Result Before RecordFault). outcome (by_ch
     go (Ok rs) = refl
     go (Err f) = refl
 
--- Where all records pass: the first of them, and those after it.
+-- Where all records are read: the first of them passes its checks, and those after it are read.
 pub record FirstPasses (b : Before) (p : Piece) (is : List Item) (rs : List Rec) : Type 0 where
   pub rest : List Rec
   pub is_first : rs ≡ rec_in p ∷ rest

@@ -5,6 +5,7 @@ use Rattle.std.proofs.lemmas.List.Edits.{paste_all, paste-paste}
 use Rattle.format.specs.Bytes.{bytes}
 use Rattle.format.specs.Writes.{placed}
 
+-- `placed` is what the library calls `paste`.
 is_paste : (out : List ℕ) (at : ℕ) (xs : List ℕ) (n : ℕ) → n ≡ length xs → paste out at xs n ≡ placed out at xs
 is_paste out at xs n e = paste_all out at xs n e ∙ ap (λ (k : ℕ). take at out ++ (xs ++ drop (at + k) out)) e
 

@@ -1,7 +1,7 @@
 -- Admitting the tasks of an image one after another into a new plan: the verdicts on the first task, on the first two,
 -- and so on, up to one that refuses.
 use Rattle.std.proofs.Common.{◌≡◌, ℕ, zero, suc, ◌+◌, ◌*◌, ◌≤◌, false, ltb, List, [], ◌∷◌, ◌++◌, length, get_or, take, drop, set, Some, None, Ok, Err, Option, Result, sym, refl, ap, ◌∙◌, subst, append_assoc, arith, length-set}
-use Rattle.std.proofs.lemmas.List.{append-nil, drop-set-lt, map-append, take_more, drop_more}
+use Rattle.std.proofs.lemmas.List.{append-nil, map-append, take_more, drop_more}
 use Rattle.std.proofs.lemmas.Bool.{le-ltb}
 use Rattle.theory.specs.declared.verdict.Unfit.{Unfit}
 use Rattle.theory.specs.Jobs.{All}
@@ -27,7 +27,7 @@ use Rattle.format.specs.Decode.{tasks_in}
 use Rattle.format.specs.Encode.{placed_in, tasks}
 use Rattle.format.specs.Fills.{entered}
 use Rattle.format.specs.Prefixes.{params, weigh, first_refused}
-use Rattle.format.proofs.Rising.{Lawful, Passes, task_passes, no_tasks, Empty, empty_from, tasks_set}
+use Rattle.format.proofs.Rising.{Lawful, Passes, task_passes, no_tasks, Empty, empty_from, empty_above, tasks_set}
 
 abbrev Done : Type 0
 Done = Result (Unit {0}) PlanFault × Channels
@@ -57,6 +57,7 @@ Says g at rs l None = (m : Channels) × ((entered g at rs l ≡ (Ok tt, m)) × (
 Says g at rs l (Some p) = (m : Channels) × (entered g at rs l ≡ (Err (Refused (refusal_of p.0) p.1), m))
 
 module _ (g : Meaning) where
+  -- The plan's answer to the task of a record that passes is the verdict on the tasks so far and this one.
   admits : (b : Before) (t : TaskRec) (l : Channels) → Passes b t → length l ≡ 64 → Empty (drop t.channel l)
       → admitted g l t.channel t.content ≡ by_verdict (weigh g (filled l ++ (t.content.params ∷ [])))
   admits b t l k n m =
@@ -101,7 +102,7 @@ module _ (g : Meaning) where
       let x = t.content.params in
       let l' = set l c (Some t.content) in
       let free : Empty (drop c l) = empty_from b.least c l w.rising m in
-      let then : Empty (drop (suc c) l') = subst Empty (sym (drop-set-lt (suc c) l c (Some t.content) (omega arith))) (empty_from b.least (suc c) l (omega (arith, w.rising)) m) in
+      let then : Empty (drop (suc c) l') = empty_above b.least c l t.content w.rising m in
       let q : filled l' ≡ filled l ++ (x ∷ []) = filled_set c l t.content (omega (arith, w.channel)) free in
       let ih = entering_says (after b (task_rec t)) (at + 37) rs l' k.1 (length-set l c (Some t.content) ∙ n) then in
       go (weigh g (filled l ++ (x ∷ []))) (admits b t l w n free) q (subst (λ (ys : List TaskParams). Says g (at + 37) rs l' (first_refused g (at + 37) ys (params (tasks_in rs)))) q ih)

@@ -1,14 +1,15 @@
 -- A plan that calls can reach comes back from its own image.
-use Rattle.std.proofs.Common.{◌≡◌, ℕ, zero, suc, ◌+◌, ◌≤◌, true, false, ltb, ◌⊎◌, List, [], ◌∷◌, ◌++◌, map, length, get_or, set, replicate, Some, None, Ok, Err, Option, Result, sym, refl, ap, ◌∙◌, subst, inl, inr, append_assoc, arith, length-append, length-set}
+use Rattle.std.proofs.Common.{◌≡◌, ℕ, zero, suc, ◌+◌, ◌≤◌, true, false, ltb, ◌⊎◌, List, [], ◌∷◌, ◌++◌, map, length, get_or, set, replicate, Some, None, Ok, Option, Result, sym, refl, ap, ◌∙◌, subst, inl, inr, append_assoc, arith, length-append, length-set}
 use lib.ListN.{length-replicate}
 use Rattle.std.proofs.lemmas.Bool.{le-ltb}
+use Rattle.std.proofs.lemmas.List.{get_or_at}
+use Rattle.std.proofs.Math.Seq.{set-append_seam}
 use Rattle.theory.specs.Jobs.{All}
 use Rattle.theory.specs.Meaning.{Meaning, Laws}
 use Rattle.theory.specs.Verdict.{look, Accepted}
 use Rattle.theory.proofs.Verdicts.{accepted_yes}
 use Rattle.theory.proofs.Lower.{accepted_lower}
 use Rattle.theory.proofs.BesideLaws.{beside_lower}
-use Rattle.loads.specs.declared.refusal.Refusal.{Refusal}
 use Rattle.loads.specs.Params.{FrameParams, FrameRanges}
 use Rattle.loads.specs.Channels.{Content, Channels, table, blank, content}
 use Rattle.loads.proofs.Fewer.{cut_lower}
@@ -18,8 +19,7 @@ use Rattle.plan.specs.Labels.{good_label}
 use Rattle.plan.specs.Ledger.{plan, by_verdict, weighed, admitted, after}
 use Rattle.plan.proofs.Reach.{Keeps, after_keeps, after_ranged, plan_laws, after_stands}
 use Rattle.format.specs.declared.fault.PlanFault.{PlanFault}
-use Rattle.format.specs.declared.fault.PlanFault.TheVariants.{Refused}
-use Rattle.format.specs.Records.{Rec, TaskRec, task_rec, frame_rec}
+use Rattle.format.specs.Records.{TaskRec, task_rec, frame_rec}
 use Rattle.format.specs.Decode.{frames_in, decode}
 use Rattle.format.specs.Encode.{placed_in, tasks, contents, encode}
 use Rattle.format.specs.Fills.{taken, entered, filled}
@@ -62,17 +62,8 @@ after_length g ks = after_keeps g SixtyFour keeps blank ks (length-replicate {A 
     }
 
 -- The place after the first part of a list.
-get_d_at : (pre : Channels) (c : ℕ) (x : Option Content) (ys : Channels) → length pre ≡ c → get_or (pre ++ (x ∷ ys)) c None ≡ x
-get_d_at [] zero x ys e = refl
-get_d_at [] (suc c) x ys e = absurd (omega arith)
-get_d_at (p ∷ pre) zero x ys e = absurd (omega arith)
-get_d_at (p ∷ pre) (suc c) x ys e = get_d_at pre c x ys (omega arith)
-
 set_at : (pre : Channels) (c : ℕ) (x y : Option Content) (ys : Channels) → length pre ≡ c → set (pre ++ (x ∷ ys)) c y ≡ pre ++ (y ∷ ys)
-set_at [] zero x y ys e = refl
-set_at [] (suc c) x y ys e = absurd (omega arith)
-set_at (p ∷ pre) zero x y ys e = absurd (omega arith)
-set_at (p ∷ pre) (suc c) x y ys e = ap (λ (l : Channels). p ∷ l) (set_at pre c x y ys (omega arith))
+set_at pre c x y ys e = ap (λ (i : ℕ). set (pre ++ (x ∷ ys)) i y) (sym e) ∙ set-append_seam pre x ys y
 
 writable_at : (pre : Channels) (x : Option Content) (ys : Channels) → Writable (pre ++ (x ∷ ys)) → WritableChannel x
 writable_at [] x ys h = h.0
@@ -85,6 +76,7 @@ entered_frames g at [] l = refl
 entered_frames g at (f ∷ fs) l = entered_frames g (at + 14) fs l
 
 module _ (g : Meaning) (lg : Laws g) (l : Channels) (w : Writable l) (n : length l ≡ 64) (r : Ranged l) (a : Accepted (plan g l).amounts) (fs : List FrameParams) where
+  -- As many empty channels.
   none : Channels → Channels
   none rest = replicate (length rest) None
 
@@ -106,13 +98,14 @@ module _ (g : Meaning) (lg : Laws g) (l : Channels) (w : Writable l) (n : length
       let v = part_fits (pre ++ (Some k ∷ [])) rest full in
       let m = length-append pre (Some k ∷ rest) in
       let b : ltb 63 c ≡ false = le-ltb 63 c (omega (arith, ap length e, m)) in
-      let o : get_or (pre ++ (None ∷ replicate (length rest) None)) c None ≡ None = get_d_at pre c None (replicate (length rest) None) q in
+      let o : get_or (pre ++ (None ∷ replicate (length rest) None)) c None ≡ None = get_or_at pre None (replicate (length rest) None) None c q in
       let y : good_label k.label ≡ true = (writable_at pre (Some k) rest (subst Writable (sym e) w)).label in
       let z : weighed g (pre ++ (None ∷ replicate (length rest) None)) c k ≡ Ok tt =
       ap (λ (x : Channels). by_verdict (look (plan g x).amounts)) (set_at pre c None (Some k) (replicate (length rest) None) q ∙ sym (append_assoc pre (Some k ∷ []) (replicate (length rest) None)))
       ∙ ap by_verdict v.1 in
       rw (y, b, o) z
 
+  -- With the first tasks back in their channels, the other tasks are admitted too.
   refill : (c at : ℕ) (pre rest : Channels) → pre ++ rest ≡ l → length pre ≡ c → entered g at (map task_rec (tasks c rest) ++ map frame_rec fs) (pre ++ none rest) ≡ (Ok tt, l)
   unfolding none
   refill c at pre [] e q = entered_frames g at fs (pre ++ []) ∙ ap (λ (x : Channels). let d : Done = (Ok tt, x) in d) e

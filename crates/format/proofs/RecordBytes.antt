@@ -50,6 +50,7 @@ abbrev pub Fits : Rec → Type 0
 Fits (task_rec t) = TaskFits t
 Fits (frame_rec f) = FrameFits f
 
+-- Dropping the first list and `k` bytes more drops `k` bytes of the second.
 past : (n k : ℕ) (xs ys : List ℕ) → length xs ≡ n → drop (n + k) (xs ++ ys) ≡ drop k ys
 past n k xs ys e = sym (drop-drop k n (xs ++ ys)) ∙ ap (drop k) (drop_at xs ys n e)
 

@@ -1,13 +1,12 @@
 -- Records that pass one after another: tasks by rising channel, so that the channels from the next one on are empty.
-use Rattle.std.proofs.Common.{◌≡◌, ℕ, zero, suc, ◌+◌, ◌-◌, ◌<◌, ◌≤◌, Bool, true, false, cond, ◌&&◌, eqb, leb, List, [], ◌∷◌, ◌++◌, length, drop, set, replicate, Some, None, Ok, Err, Option, sym, refl, ap, ◌∙◌, subst, ap₂, add-zero, add-suc, suc-add, arith}
-use Rattle.std.proofs.lemmas.List.{drop-drop}
+use Rattle.std.proofs.Common.{◌≡◌, ℕ, zero, suc, ◌+◌, ◌-◌, ◌<◌, ◌≤◌, Bool, true, false, cond, ◌&&◌, eqb, leb, List, [], ◌∷◌, ◌++◌, length, drop, set, replicate, Some, None, Ok, Err, sym, refl, ap, ◌∙◌, subst, ap₂, add-zero, add-suc, suc-add, arith}
+use Rattle.std.proofs.lemmas.List.{drop-drop, drop-set-lt}
 use Rattle.std.proofs.lemmas.Bool.{leb-true, eqb-true}
 use Rattle.loads.specs.declared.refusal.Refusal.TheVariants.{NoChannel, BadLabel, OutOfOrder}
 use Rattle.loads.specs.Making.{task_refusal}
 use Rattle.loads.specs.Channels.{Content, Channels}
 use Rattle.plan.specs.Labels.{good_label}
 use Rattle.format.specs.declared.before.Before.{Before}
-use Rattle.format.specs.declared.fault.RecordFault.{RecordFault}
 use Rattle.format.specs.declared.fault.RecordFault.TheVariants as in_record
 use Rattle.format.specs.Records.{Rec, task_rec, frame_rec, TaskRec, start, after, fault, out_of_range}
 use Rattle.format.specs.Decode.{decode, tasks_in, rec_in}
@@ -15,7 +14,7 @@ use Rattle.format.specs.Encode.{placed_in, tasks}
 use Rattle.format.specs.Parts.{offset, pieces_from}
 use Rattle.format.proofs.Front.{clash}
 use Rattle.format.proofs.Items.{Item, checks, decode_checks, first_passes}
-use Rattle.format.proofs.TakingFrames.{in_range}
+use Rattle.format.proofs.TakingFrames.{faulty, in_range}
 
 -- Each record passes after those before it.
 abbrev pub Lawful : Before → List Rec → Type 0
@@ -42,16 +41,13 @@ pub record Passes (b : Before) (t : TaskRec) : Type 0 where
 pub task_passes : (b : Before) (at : ℕ) (t : TaskRec) → fault b at (task_rec t) ≡ None → Passes b t
 task_passes b at t p = go (good_label t.content.label) (leb t.channel 63) (leb b.least t.channel) (eqb b.frames 0) refl refl refl refl p
   where
-    never : {A : Type 0} (e : RecordFault) → ◌≡◌ {A = Option RecordFault} (Some e) None → A
-    never e q = let z : ◌≡◌ {A = ℕ} 0 1 = cc in absurd (omega arith)
-
     go : (x y z w : Bool) → good_label t.content.label ≡ x → leb t.channel 63 ≡ y → leb b.least t.channel ≡ z → eqb b.frames 0 ≡ w
         → cond x (cond y (cond (z && w) (out_of_range at (task_refusal t.content.params)) (Some (in_record.Refused OutOfOrder at))) (Some (in_record.Refused NoChannel at))) (Some (in_record.Refused BadLabel at)) ≡ None
         → Passes b t
-    go false y z w e₀ e₁ e₂ e₃ q = never (in_record.Refused BadLabel at) q
-    go true false z w e₀ e₁ e₂ e₃ q = never (in_record.Refused NoChannel at) q
-    go true true false w e₀ e₁ e₂ e₃ q = never (in_record.Refused OutOfOrder at) q
-    go true true true false e₀ e₁ e₂ e₃ q = never (in_record.Refused OutOfOrder at) q
+    go false y z w e₀ e₁ e₂ e₃ q = faulty (in_record.Refused BadLabel at) q
+    go true false z w e₀ e₁ e₂ e₃ q = faulty (in_record.Refused NoChannel at) q
+    go true true false w e₀ e₁ e₂ e₃ q = faulty (in_record.Refused OutOfOrder at) q
+    go true true true false e₀ e₁ e₂ e₃ q = faulty (in_record.Refused OutOfOrder at) q
     go true true true true e₀ e₁ e₂ e₃ q = record {
       label = e₀;
       rising = leb-true b.least t.channel e₂;
@@ -60,12 +56,13 @@ task_passes b at t p = go (good_label t.content.label) (leb t.channel 63) (leb b
       ranged = in_range at (task_refusal t.content.params) q;
     }
 
+-- After a frame there are no tasks.
 pub no_tasks : (b : Before) (rs : List Rec) → 0 < b.frames → Lawful b rs → tasks_in rs ≡ []
 no_tasks b [] h k = refl
 no_tasks b (task_rec t ∷ rs) h k = let w = task_passes b k.0.0 t k.0.1 in absurd (omega (arith, w.first))
 no_tasks b (frame_rec f ∷ rs) h k = no_tasks (after b (frame_rec f)) rs (omega arith) k.1
 
--- Nothing stands in a part of the channels.
+-- These channels are empty.
 abbrev pub Empty : Channels → Type 0
 Empty [] = Unit {0}
 Empty (None ∷ l) = Empty l
@@ -90,6 +87,10 @@ pub empty_from : (a c : ℕ) (l : Channels) → a ≤ c → Empty (drop a l) →
 empty_from a c l h m =
     let e : a + (c - a) ≡ c = omega arith in
     subst (λ (n : ℕ). Empty (drop n l)) e (subst Empty (drop-drop (c - a) a l) (empty_drop (c - a) (drop a l) m))
+
+-- Above a channel that is filled now the channels are as empty as before.
+pub empty_above : (a c : ℕ) (l : Channels) (e : Content) → a ≤ c → Empty (drop a l) → Empty (drop (suc c) (set l c (Some e)))
+empty_above a c l e h m = subst Empty (sym (drop-set-lt (suc c) l c (Some e) (omega arith))) (empty_from a (suc c) l (omega arith) m)
 
 -- A task in the first of the empty channels, or above it, comes last.
 pub tasks_set : (k c : ℕ) (l : Channels) (e : Content) → c < length l → Empty (drop c l) → tasks k (set l c (Some e)) ≡ tasks k l ++ (placed_in (k + c) e ∷ [])

@@ -20,7 +20,7 @@ use Rattle.format.specs.Statements.{Writable}
 use Rattle.format.proofs.RecordBytes.{Fits, length_rec}
 use Rattle.format.proofs.Front.{Read, AllRead, clash, Stands, rec_of_piece, part_rec, part_stands, checked, next, records_next}
 
--- Reading back.
+-- Reading back: records that fit their bytes and pass their checks one after another.
 abbrev Readable : Before → List Rec → Type 0
 Readable b [] = Unit {0}
 Readable b (r ∷ rs) = Fits r × ((at : ℕ) → fault b at r ≡ None) × Readable (after b r) rs
@@ -49,6 +49,7 @@ some_bytes : (r : Rec) → 0 < length (rec_bytes r)
 some_bytes (task_rec t) = omega arith
 some_bytes (frame_rec f) = omega arith
 
+-- As many turns as bytes are enough.
 image_longer : (rs : List Rec) → length rs < length (image rs)
 image_longer [] = omega arith
 image_longer (r ∷ rs) =
@@ -88,7 +89,7 @@ reads_back l fs h q k r =
     (readable_tasks start 0 l (map frame_rec fs) (omega arith) refl (omega arith) q (λ d e. readable_frames d fs r (omega arith)))
     (image_longer (contents l fs))
 
--- Writing back.
+-- Writing back: what was read in `n` turns is the image of the records.
 abbrev Written : ℕ → Type 0
 Written n = (b : Before) (at : ℕ) (xs : List ℕ) (rs : List Rec) → Bytes xs → records n b at xs ≡ Ok rs → image rs ≡ xs
 

@@ -15,18 +15,22 @@ use Rattle.format.specs.Fills.{taken, FramesThen}
 use Rattle.format.proofs.Front.{AllRead}
 use Rattle.format.proofs.Items.{Item, checks, was_ok, FirstPasses, first_passes}
 
+-- A record with a fault does not pass.
+pub faulty : {A : Type 0} (e : RecordFault) → ◌≡◌ {A = Option RecordFault} (Some e) None → A
+faulty e p = let z : ◌≡◌ {A = ℕ} 0 1 = cc in absurd (omega arith)
+
 pub in_range : (at : ℕ) (o : Option Refusal) → out_of_range at o ≡ None → o ≡ None
 in_range at None p = refl
 in_range at (Some e) p = cc
 
--- A frame that passes.
+-- A frame that passes its checks finds room, and its numbers are in range.
 frame_passes : (b : Before) (at : ℕ) (f : FrameParams) → fault b at (frame_rec f) ≡ None → (b.frames < 16) × (frame_refusal f ≡ None)
 frame_passes b at f p = go (ltb b.frames 16) refl p
   where
     go : (t : Bool) → ltb b.frames 16 ≡ t → cond t (out_of_range at (frame_refusal f)) (Some (Refused TrainFull at)) ≡ None
         → (b.frames < 16) × (frame_refusal f ≡ None)
     go true e q = (ltb-true b.frames 16 e, in_range at (frame_refusal f) q)
-    go false e q = let z : ◌≡◌ {A = ℕ} 0 1 = cc in absurd (omega arith)
+    go false e q = faulty (Refused TrainFull at) q
 
 -- The frames taken so far, with those that are left, are those of the image.
 pub record Taking (xs : List ℕ) (held fresh : List FrameParams) (is : List Item) : Type 0 where

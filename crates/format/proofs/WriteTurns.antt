@@ -117,7 +117,7 @@ length_encode l fs =
     ap length (encode_parts l fs) ∙ length-append (tasks_bytes 0 l ++ frames_bytes fs) (0x45 ∷ 0x4E ∷ [])
     ∙ ap (λ (n : ℕ). n + 2) (length-append (tasks_bytes 0 l) (frames_bytes fs) ∙ ap (λ (n : ℕ). length (tasks_bytes 0 l) + n) (length_frames fs))
 
--- How many channels of a table are filled.
+-- The label in a slot has sixteen bytes.
 labels : (ss : List Slot) (i : ℕ) (k : Content) → get_or (map slot_content ss) i None ≡ Some k → length k.label ≡ 16
 labels [] i k e = cc
 labels (s ∷ ss) zero k e = go s.held e
@@ -127,10 +127,12 @@ labels (s ∷ ss) zero k e = go s.held e
     go (Some x) q = let z : content x ≡ k = cc in subst (λ (y : Content). length y.label ≡ 16) z x.sixteen
 labels (s ∷ ss) (suc i) k e = labels ss i k e
 
+-- How many channels of a table are filled.
 module _ (t : Table Slot) where
   abbrev pub is_filled : ℕ → Bool
   is_filled i = is_ok (reading (channels t) i)
 
+  -- The filled ones among the last `n` channels take 37 bytes each.
   counted : (n c : ℕ) → c + n ≡ 64 → 37 * length (filter is_filled (range_with_len c n)) ≡ length (tasks_bytes c (drop c (channels t)))
   counted zero c e = ap length (sym (at_drop_all (tasks_bytes c) (channels t) c (omega (arith, channels_length t))))
   counted (suc n) c e =

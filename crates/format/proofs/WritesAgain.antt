@@ -1,6 +1,6 @@
 -- An image that fills a new plan is written again, byte for byte.
-use Rattle.std.proofs.Common.{◌≡◌, ℕ, suc, ◌+◌, ◌<◌, List, [], ◌∷◌, ◌++◌, map, length, get_or, drop, set, Some, Ok, Err, Result, sym, refl, ap, ◌∙◌, subst, ap₂, append_assoc, zero-add, arith, length-set}
-use Rattle.std.proofs.lemmas.List.{drop-set-lt, append-nil}
+use Rattle.std.proofs.Common.{◌≡◌, ℕ, suc, ◌+◌, ◌<◌, List, [], ◌∷◌, ◌++◌, map, length, get_or, drop, set, Some, Ok, Err, Result, sym, refl, ap, ◌∙◌, ap₂, append_assoc, zero-add, arith, length-set}
+use Rattle.std.proofs.lemmas.List.{append-nil}
 use Rattle.theory.specs.Meaning.{Meaning}
 use Rattle.loads.specs.declared.refusal.Refusal.{Refusal}
 use Rattle.loads.specs.Params.{FrameParams}
@@ -16,8 +16,9 @@ use Rattle.format.specs.Decode.{decode, tasks_in, frames_in}
 use Rattle.format.specs.Encode.{image, placed_in, tasks, encode}
 use Rattle.format.specs.Fills.{taken, entered, filled}
 use Rattle.format.specs.Statements.{WritesAgain}
+use Rattle.format.proofs.Front.{clash}
 use Rattle.format.proofs.RoundTrip.{writes_back}
-use Rattle.format.proofs.Rising.{Lawful, decoded_lawful, task_passes, no_tasks, Empty, empty_blank, empty_from, tasks_set}
+use Rattle.format.proofs.Rising.{Lawful, decoded_lawful, task_passes, no_tasks, Empty, empty_blank, empty_from, empty_above, tasks_set}
 
 -- Tasks come first, and then the frames.
 sorted : (b : Before) (rs : List Rec) → Lawful b rs → map task_rec (tasks_in rs) ++ map frame_rec (frames_in rs) ≡ rs
@@ -33,6 +34,7 @@ abbrev Done : Type 0
 Done = Result (Unit {0}) PlanFault × Channels
 
 module _ (g : Meaning) where
+  -- Where all tasks are entered, the first is, and then the others.
   granted : (at : ℕ) (rs : List Rec) (l m : Channels) (t : TaskRec) → entered g at (task_rec t ∷ rs) l ≡ (Ok tt, m) → entered g (at + 37) rs (set l t.channel (Some t.content)) ≡ (Ok tt, m)
   unfolding entered
   granted at rs l m t p = go (admitted g l t.channel t.content) p
@@ -40,8 +42,9 @@ module _ (g : Meaning) where
       go : (r : Result (Unit {0}) Refusal) → ◌≡◌ {A = Done} (elim r [ Err e ↦ (Err (Refused e at), l) | Ok u ↦ entered g (at + 37) rs (set l t.channel (Some t.content)) ]) (Ok tt, m)
           → entered g (at + 37) rs (set l t.channel (Some t.content)) ≡ (Ok tt, m)
       go (Ok u) q = q
-      go (Err e) q = let w : Err (Refused e at) ≡ Ok tt = ap (λ (x : Done). x.0) q in let z : ◌≡◌ {A = ℕ} 0 1 = cc in absurd (omega arith)
+      go (Err e) q = clash (Refused e at) tt (ap (λ (x : Done). x.0) q)
 
+  -- Where all tasks are entered, those of the ledger then are those before and those of the records.
   all_entered : (b : Before) (at : ℕ) (rs : List Rec) (l m : Channels) → Lawful b rs → length l ≡ 64 → Empty (drop b.least l) → entered g at rs l ≡ (Ok tt, m) → tasks 0 m ≡ tasks 0 l ++ tasks_in rs
   unfolding entered
   all_entered b at [] l m k n h p = ap (λ (x : Done). tasks 0 x.1) (sym p) ∙ sym (append-nil (tasks 0 l))
@@ -52,15 +55,16 @@ module _ (g : Meaning) where
       let e = t.content in
       let q = granted at rs l m t p in
       let now : Empty (drop c l) = empty_from b.least c l w.rising h in
-      let then : Empty (drop (suc c) (set l c (Some e))) = subst Empty (sym (drop-set-lt (suc c) l c (Some e) (omega arith))) (empty_from b.least (suc c) l (omega (arith, w.rising)) h) in
+      let then : Empty (drop (suc c) (set l c (Some e))) = empty_above b.least c l e w.rising h in
       all_entered (after b (task_rec t)) (at + 37) rs (set l c (Some e)) m k.1 (length-set l c (Some e) ∙ n) then q
       ∙ ap (λ (ts : List TaskRec). ts ++ tasks_in rs) (tasks_set 0 c l e (omega (arith, w.channel)) now ∙ ap (λ (i : ℕ). tasks 0 l ++ (placed_in i e ∷ [])) (zero-add c))
       ∙ append_assoc (tasks 0 l) (t ∷ []) (tasks_in rs)
 
+  -- The statement, by what was read.
   again : (xs : List ℕ) (l : Channels) (fs before : List FrameParams) (x : Result (List Rec) RecordFault) → decode xs ≡ x → Bytes xs
       → filled g x blank ≡ (Ok tt, l) → taken x before ≡ (Ok tt, fs) → encode l fs ≡ xs
   unfolding decode
-  again xs l fs before (Err e) d h p q = let r : Err (Record e) ≡ Ok tt = ap (λ (y : Done). y.0) p in let z : ◌≡◌ {A = ℕ} 0 1 = cc in absurd (omega arith)
+  again xs l fs before (Err e) d h p q = clash (Record e) tt (ap (λ (y : Done). y.0) p)
   again xs l fs before (Ok rs) d h p q =
       let k = decoded_lawful xs rs d in
       let t : tasks 0 l ≡ tasks_in rs = all_entered start 0 rs blank l k refl (empty_blank 64) p in

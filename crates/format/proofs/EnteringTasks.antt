@@ -17,19 +17,16 @@ use Rattle.format.specs.declared.fault.PlanFault.TheVariants.{Refused}
 use Rattle.format.specs.Records.{Rec, task_rec, TaskRec, start, field, params_in, task_in}
 use Rattle.format.specs.Decode.{decode, task_piece, frame_piece}
 use Rattle.format.specs.Parts.{outcome, pieces_from}
-use Rattle.format.specs.Fills.{ranged, content_made, one_entered, entered, filled, Reached, KeptAgain}
+use Rattle.format.specs.Fills.{Filled, ranged, content_made, one_entered, entered, filled, Reached, KeptAgain}
 use Rattle.plan.proofs.Turns.{after_join, kept_more}
 use Rattle.format.proofs.Fields.{field_1}
 use Rattle.format.proofs.Items.{Item, Consecutive, all_consecutive, checks, was_ok, FirstPasses, first_passes}
 use Rattle.format.proofs.Rising.{task_passes}
 
-abbrev Done : Type 0
-Done = Result (Unit {0}) PlanFault × Channels
-
 -- One task.
 
 -- What is entered, by the plan's answer to the task.
-abbrev by_answer : ℕ → TaskRec → Channels → Result (Unit {0}) Refusal → Done
+abbrev by_answer : ℕ → TaskRec → Channels → Result (Unit {0}) Refusal → Filled
 by_answer at t l r = elim r [ Err e ↦ (Err (Refused e at), l) | Ok u ↦ (Ok tt, set l t.channel (Some t.content)) ]
 
 -- What was made is what the record holds.
@@ -49,24 +46,24 @@ module _ (g : Meaning) (bytes : List ℕ) (at : ℕ) (l m : Channels) (long : le
   answer_is : admitted g l (get_or bytes 18 0) (content entry) ≡ admitted g l (task_in bytes).channel (task_in bytes).content
   answer_is = λ i. admitted g l (channel_is i) (content_is i)
 
-  entered_ok : Ok tt ≡ admitted g l (get_or bytes 18 0) (content entry) → ◌≡◌ {A = Result (Unit {0}) PlanFault × Channels} (Ok tt, m) (one_entered g at (task_in bytes) l)
+  entered_ok : Ok tt ≡ admitted g l (get_or bytes 18 0) (content entry) → ◌≡◌ {A = Filled} (Ok tt, m) (one_entered g at (task_in bytes) l)
   entered_ok a =
       let s : m ≡ set l (task_in bytes).channel (Some (task_in bytes).content) =
       then ∙ ap (λ (r : Result (Unit {0}) Refusal). if_ok r (set l (get_or bytes 18 0) (Some (content entry))) l) (sym a)
       ∙ (λ i. set l (channel_is i) (Some (content_is i))) in
-      ap (λ (x : Channels). let d : Done = (Ok tt, x) in d) s ∙ ap (by_answer at (task_in bytes) l) (a ∙ answer_is)
+      ap (λ (x : Channels). let d : Filled = (Ok tt, x) in d) s ∙ ap (by_answer at (task_in bytes) l) (a ∙ answer_is)
 
-  entered_err : (e : Refusal) → Err e ≡ admitted g l (get_or bytes 18 0) (content entry) → ◌≡◌ {A = Result (Unit {0}) PlanFault × Channels} (Err (Refused e at), m) (one_entered g at (task_in bytes) l)
+  entered_err : (e : Refusal) → Err e ≡ admitted g l (get_or bytes 18 0) (content entry) → ◌≡◌ {A = Filled} (Err (Refused e at), m) (one_entered g at (task_in bytes) l)
   entered_err e a =
       let s : m ≡ l = then ∙ ap (λ (r : Result (Unit {0}) Refusal). if_ok r (set l (get_or bytes 18 0) (Some (content entry))) l) (sym a) in
-      ap (λ (x : Channels). let d : Done = (Err (Refused e at), x) in d) s ∙ ap (by_answer at (task_in bytes) l) (a ∙ answer_is)
+      ap (λ (x : Channels). let d : Filled = (Err (Refused e at), x) in d) s ∙ ap (by_answer at (task_in bytes) l) (a ∙ answer_is)
 
   -- The plan's answer to the task, with the offset where it refuses.
   pub entered_is : (r : Result (Unit {0}) Refusal) (q : Result (Unit {0}) PlanFault) → r ≡ admitted g l (get_or bytes 18 0) (content entry)
-      → MatchResult r (λ x. q ≡ Ok x) (λ e. IsErrAnd q (λ f. f ≡ Refused e at)) → ◌≡◌ {A = Result (Unit {0}) PlanFault × Channels} (q, m) (one_entered g at (task_in bytes) l)
-  entered_is (Ok x) q a p = ap (λ (y : Result (Unit {0}) PlanFault). let d : Done = (y, m) in d) p ∙ entered_ok a
+      → MatchResult r (λ x. q ≡ Ok x) (λ e. IsErrAnd q (λ f. f ≡ Refused e at)) → ◌≡◌ {A = Filled} (q, m) (one_entered g at (task_in bytes) l)
+  entered_is (Ok x) q a p = ap (λ (y : Result (Unit {0}) PlanFault). let d : Filled = (y, m) in d) p ∙ entered_ok a
   entered_is (Err e) (Ok x) a p = absurd p
-  entered_is (Err e) (Err f) a p = ap (λ (y : PlanFault). let d : Done = (Err y, m) in d) p ∙ entered_err e a
+  entered_is (Err e) (Err f) a p = ap (λ (y : PlanFault). let d : Filled = (Err y, m) in d) p ∙ entered_err e a
 
 -- What is reached by calls from a ledger that was reached is reached.
 pub reached_more : (g : Meaning) (l m n : Channels) → Reached g l m → Reached g m n → Reached g l n
@@ -96,7 +93,7 @@ entering_start g xs l p =
     }
 
 -- Entering the other records, by what entering the first answered.
-abbrev onward : Meaning → ℕ → List Rec → Done → Done
+abbrev onward : Meaning → ℕ → List Rec → Filled → Filled
 onward g at rs d = elim d.0 [ Err e ↦ (Err e, d.1) | Ok u ↦ entered g at rs d.1 ]
 
 entered_task : (g : Meaning) (at : ℕ) (rs : List Rec) (l : Channels) (t : TaskRec) → onward g (at + 37) rs (one_entered g at t l) ≡ entered g at (task_rec t ∷ rs) l
@@ -109,10 +106,10 @@ entered_task g at rs l t = go (admitted g l t.channel t.content)
 
 -- What entering the task of a record says, where its parameters are in range.
 abbrev pub Says : Meaning → List ℕ → ℕ → Channels → Channels → Result (Unit {0}) PlanFault → Type 0
-Says g bytes at l m r = task_refusal (params_in bytes) ≡ None → ◌≡◌ {A = Result (Unit {0}) PlanFault × Channels} (r, m) (one_entered g at (task_in bytes) l)
+Says g bytes at l m r = task_refusal (params_in bytes) ≡ None → ◌≡◌ {A = Filled} (r, m) (one_entered g at (task_in bytes) l)
 
 module _ (g : Meaning) (xs : List ℕ) (l₀ l : Channels) where
-  pub entering_end : Entering g xs l₀ l [] → ◌≡◌ {A = Result (Unit {0}) PlanFault × Channels} (Ok tt, l) (filled g (decode xs) l₀)
+  pub entering_end : Entering g xs l₀ l [] → ◌≡◌ {A = Filled} (Ok tt, l) (filled g (decode xs) l₀)
   unfolding entered
   entering_end k = let e : [] ≡ k.left = let q = k.reads in cc in ap (λ (rs : List Rec). entered g k.at rs l) e ∙ k.sum
 
@@ -126,7 +123,7 @@ module _ (g : Meaning) (xs : List ℕ) (l₀ l : Channels) where
     next_of : FirstPasses k.before (task_piece bytes place) is k.left
     next_of = first_passes k.before (task_piece bytes place) is k.left k.reads
 
-    step_is : (d : Done) → (task_refusal (params_in bytes) ≡ None → d ≡ one_entered g place (task_in bytes) l)
+    step_is : (d : Filled) → (task_refusal (params_in bytes) ≡ None → d ≡ one_entered g place (task_in bytes) l)
         → onward g (place + 37) next_of.rest d ≡ filled g (decode xs) l₀
     step_is d f =
         let w = next_of in
@@ -134,7 +131,7 @@ module _ (g : Meaning) (xs : List ℕ) (l₀ l : Channels) where
         ∙ (λ i. entered g (k.consecutive.0 i) (sym w.is_first i) l) ∙ k.sum
 
     pub task_refused : (m : Channels) (e : PlanFault) → Says g bytes place l m (Err e)
-        → ◌≡◌ {A = Result (Unit {0}) PlanFault × Channels} (Err e, m) (filled g (decode xs) l₀)
+        → ◌≡◌ {A = Filled} (Err e, m) (filled g (decode xs) l₀)
     task_refused m e f = step_is (Err e, m) f
 
     pub task_entered : (m : Channels) → Says g bytes place l m (Ok tt) → Reached g l m → Entering g xs l₀ m is

@@ -20,17 +20,13 @@ use Rattle.loads.specs.Channels.{Content, Channels, filled}
 use Rattle.loads.specs.TaskList.{tasks_laws}
 use Rattle.plan.specs.Ledger.{refusal_of, by_verdict, admitted}
 use Rattle.format.specs.declared.before.Before.{Before}
-use Rattle.format.specs.declared.fault.PlanFault.{PlanFault}
 use Rattle.format.specs.declared.fault.PlanFault.TheVariants.{Refused}
 use Rattle.format.specs.Records.{Rec, TaskRec, task_rec, frame_rec, after}
 use Rattle.format.specs.Decode.{tasks_in}
 use Rattle.format.specs.Encode.{placed_in, tasks}
-use Rattle.format.specs.Fills.{entered}
+use Rattle.format.specs.Fills.{Filled, entered}
 use Rattle.format.specs.Prefixes.{params, weigh, first_refused}
 use Rattle.format.proofs.Rising.{Lawful, Passes, task_passes, no_tasks, Empty, empty_from, empty_above, tasks_set}
-
-abbrev Done : Type 0
-Done = Result (Unit {0}) PlanFault × Channels
 
 -- The tasks of channels are those of their records.
 filled_tasks : (k : ℕ) (l : Channels) → filled l ≡ params (tasks k l)
@@ -71,13 +67,13 @@ module _ (g : Meaning) where
       → entered g at (task_rec t ∷ rs) l ≡ entered g (at + 37) rs (set l t.channel (Some t.content))
   unfolding entered
   entered_ok at t rs l e =
-      ap (λ (r : Result (Unit {0}) Refusal). let d : Done = elim r [ Err f ↦ (Err (Refused f at), l) | Ok u ↦ entered g (at + 37) rs (set l t.channel (Some t.content)) ] in d) e
+      ap (λ (r : Result (Unit {0}) Refusal). let d : Filled = elim r [ Err f ↦ (Err (Refused f at), l) | Ok u ↦ entered g (at + 37) rs (set l t.channel (Some t.content)) ] in d) e
 
   entered_err : (at : ℕ) (t : TaskRec) (rs : List Rec) (l : Channels) (f : Refusal) → admitted g l t.channel t.content ≡ Err f
       → entered g at (task_rec t ∷ rs) l ≡ (Err (Refused f at), l)
   unfolding entered
   entered_err at t rs l f e =
-      ap (λ (r : Result (Unit {0}) Refusal). let d : Done = elim r [ Err f ↦ (Err (Refused f at), l) | Ok u ↦ entered g (at + 37) rs (set l t.channel (Some t.content)) ] in d) e
+      ap (λ (r : Result (Unit {0}) Refusal). let d : Filled = elim r [ Err f ↦ (Err (Refused f at), l) | Ok u ↦ entered g (at + 37) rs (set l t.channel (Some t.content)) ] in d) e
 
   -- What is said of the records after a task that is granted is said with it.
   onward : (at : ℕ) (t : TaskRec) (rs : List Rec) (l m : Channels) (o : Option (Unfit × ℕ)) → entered g at (task_rec t ∷ rs) l ≡ entered g (at + 37) rs m

@@ -1,5 +1,5 @@
 -- A plan that calls can reach comes back from its own image.
-use Rattle.std.proofs.Common.{◌≡◌, ℕ, zero, suc, ◌+◌, ◌≤◌, true, false, ltb, ◌⊎◌, List, [], ◌∷◌, ◌++◌, map, length, get_or, set, replicate, Some, None, Ok, Option, Result, sym, refl, ap, ◌∙◌, subst, inl, inr, append_assoc, arith, length-append, length-set}
+use Rattle.std.proofs.Common.{◌≡◌, ℕ, zero, suc, ◌+◌, ◌≤◌, true, false, ltb, ◌⊎◌, List, [], ◌∷◌, ◌++◌, map, length, get_or, set, replicate, Some, None, Ok, Option, sym, refl, ap, ◌∙◌, subst, inl, inr, append_assoc, arith, length-append, length-set}
 use lib.ListN.{length-replicate}
 use Rattle.std.proofs.lemmas.Bool.{le-ltb}
 use Rattle.std.proofs.lemmas.List.{get_or_at}
@@ -18,17 +18,13 @@ use Rattle.plan.specs.declared.call.Call.{Call}
 use Rattle.plan.specs.Labels.{good_label}
 use Rattle.plan.specs.Ledger.{plan, by_verdict, weighed, admitted, after}
 use Rattle.plan.proofs.Reach.{Keeps, after_keeps, after_ranged, plan_laws, after_stands}
-use Rattle.format.specs.declared.fault.PlanFault.{PlanFault}
 use Rattle.format.specs.Records.{TaskRec, task_rec, frame_rec}
 use Rattle.format.specs.Decode.{frames_in, decode}
 use Rattle.format.specs.Encode.{placed_in, tasks, contents, encode}
-use Rattle.format.specs.Fills.{taken, entered, filled}
+use Rattle.format.specs.Fills.{Filled, taken, entered, filled}
 use Rattle.format.specs.Statements.{WritableChannel, Writable, ReadsAgain}
 use Rattle.format.proofs.Prefixes.{entered_ok}
 use Rattle.format.proofs.RoundTrip.{reads_back}
-
-abbrev Done : Type 0
-Done = Result (Unit {0}) PlanFault × Channels
 
 -- Every ledger that calls can reach can be written.
 all_set : (l : Channels) (c : ℕ) (o : Option Content) → WritableChannel o → Writable l → Writable (set l c o)
@@ -108,7 +104,7 @@ module _ (g : Meaning) (lg : Laws g) (l : Channels) (w : Writable l) (n : length
   -- With the first tasks back in their channels, the other tasks are admitted too.
   refill : (c at : ℕ) (pre rest : Channels) → pre ++ rest ≡ l → length pre ≡ c → entered g at (map task_rec (tasks c rest) ++ map frame_rec fs) (pre ++ none rest) ≡ (Ok tt, l)
   unfolding none
-  refill c at pre [] e q = entered_frames g at fs (pre ++ []) ∙ ap (λ (x : Channels). let d : Done = (Ok tt, x) in d) e
+  refill c at pre [] e q = entered_frames g at fs (pre ++ []) ∙ ap (λ (x : Channels). let d : Filled = (Ok tt, x) in d) e
   refill c at pre (None ∷ rest) e q =
       ap (entered g at (map task_rec (tasks (suc c) rest) ++ map frame_rec fs)) (sym (append_assoc pre (None ∷ []) (replicate (length rest) None)))
       ∙ refill (suc c) at (pre ++ (None ∷ [])) rest (append_assoc pre (None ∷ []) rest ∙ e) (length-append pre (None ∷ []) ∙ omega arith)
@@ -140,7 +136,7 @@ reached_back g lg ks fs = go (after_stands g lg ks)
         ap (λ (x : Channels). entered g 0 (contents x fs) blank) e
         ∙ ap (λ (ts : List TaskRec). entered g 0 (map task_rec ts ++ map frame_rec fs) blank) (tasks_blank 64 0)
         ∙ entered_frames g 0 fs blank
-        ∙ ap (λ (x : Channels). let d : Done = (Ok tt, x) in d) (sym e)
+        ∙ ap (λ (x : Channels). let d : Filled = (Ok tt, x) in d) (sym e)
 
 pub reads_again : (g : Meaning) → Laws g → (before : List Call) (l : Channels) (fs : List FrameParams) → l ≡ after g blank before → length fs ≤ 16 → All FrameRanges fs → ReadsAgain g l fs
 reads_again g lg before l fs e h r =

@@ -11,7 +11,7 @@ use Rattle.format.specs.declared.fault.RecordFault.TheVariants.{Refused}
 use Rattle.format.specs.Records.{Rec, frame_rec, start, after, fault, out_of_range, frame_in}
 use Rattle.format.specs.Decode.{decode, frames_in, task_piece, frame_piece}
 use Rattle.format.specs.Parts.{outcome, pieces_from}
-use Rattle.format.specs.Fills.{taken, FramesThen}
+use Rattle.format.specs.Fills.{Taken, taken, FramesThen}
 use Rattle.format.proofs.Front.{AllRead}
 use Rattle.format.proofs.Items.{Item, checks, was_ok, FirstPasses, first_passes}
 
@@ -40,9 +40,6 @@ pub record Taking (xs : List ℕ) (held fresh : List FrameParams) (is : List Ite
   pub count : before.frames ≡ length fresh
   pub sum : taken (decode xs) held ≡ (Ok tt, fresh ++ frames_in left)
 
-abbrev Answer : Type 0
-Answer = Result (Unit {0}) RecordFault × List FrameParams
-
 module _ (xs : List ℕ) (held fresh : List FrameParams) where
   pub taking_start : Ok tt ≡ outcome (decode xs) → fresh ≡ [] → Taking xs held fresh (pieces_from xs (Some 0))
   taking_start p e =
@@ -52,7 +49,7 @@ module _ (xs : List ℕ) (held fresh : List FrameParams) where
         left = w.0;
         reads = w.2;
         count = sym (ap length e);
-        sum = ap (λ (x : AllRead). taken x held) w.1 ∙ ap (λ (fs : List FrameParams). let x : Answer = (Ok tt, fs ++ frames_in w.0) in x) (sym e);
+        sum = ap (λ (x : AllRead). taken x held) w.1 ∙ ap (λ (fs : List FrameParams). let x : Taken = (Ok tt, fs ++ frames_in w.0) in x) (sym e);
       }
 
   module _ (bytes : List ℕ) (place : ℕ) (is : List Item) (k : Taking xs held fresh (Ok (frame_piece bytes place) ∷ is)) where
@@ -79,7 +76,7 @@ module _ (xs : List ℕ) (held fresh : List FrameParams) where
           left = w.rest;
           reads = w.good;
           count = omega (arith, k.count, n);
-          sum = k.sum ∙ ap (λ (fs : List FrameParams). let x : Answer = (Ok tt, fs) in x) all;
+          sum = k.sum ∙ ap (λ (fs : List FrameParams). let x : Taken = (Ok tt, fs) in x) all;
         }
 
   pub task_passed : (bytes : List ℕ) (place : ℕ) (is : List Item) → Taking xs held fresh (Ok (task_piece bytes place) ∷ is) → Taking xs held fresh is
@@ -90,5 +87,5 @@ module _ (xs : List ℕ) (held fresh : List FrameParams) where
         left = w.rest;
         reads = w.good;
         count = k.count;
-        sum = k.sum ∙ ap (λ (rs : List Rec). let x : Answer = (Ok tt, fresh ++ frames_in rs) in x) w.is_first;
+        sum = k.sum ∙ ap (λ (rs : List Rec). let x : Taken = (Ok tt, fresh ++ frames_in rs) in x) w.is_first;
       }

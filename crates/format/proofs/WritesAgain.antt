@@ -8,13 +8,12 @@ use Rattle.loads.specs.Channels.{Channels, blank}
 use Rattle.plan.specs.Ledger.{admitted}
 use Rattle.format.specs.declared.before.Before.{Before}
 use Rattle.format.specs.declared.fault.RecordFault.{RecordFault}
-use Rattle.format.specs.declared.fault.PlanFault.{PlanFault}
 use Rattle.format.specs.declared.fault.PlanFault.TheVariants.{Record, Refused}
 use Rattle.format.specs.Bytes.{Bytes}
 use Rattle.format.specs.Records.{Rec, task_rec, frame_rec, TaskRec, start, after}
 use Rattle.format.specs.Decode.{decode, tasks_in, frames_in}
 use Rattle.format.specs.Encode.{image, placed_in, tasks, encode}
-use Rattle.format.specs.Fills.{taken, entered, filled}
+use Rattle.format.specs.Fills.{Filled, Taken, taken, entered, filled}
 use Rattle.format.specs.Statements.{WritesAgain}
 use Rattle.format.proofs.Front.{clash}
 use Rattle.format.proofs.RoundTrip.{writes_back}
@@ -30,24 +29,21 @@ sorted b (frame_rec f ∷ rs) k =
     ∙ ap (λ (ts : List TaskRec). frame_rec f ∷ (map task_rec ts ++ map frame_rec (frames_in rs))) (sym e)
     ∙ ap (λ (qs : List Rec). frame_rec f ∷ qs) (sorted (after b (frame_rec f)) rs k.1)
 
-abbrev Done : Type 0
-Done = Result (Unit {0}) PlanFault × Channels
-
 module _ (g : Meaning) where
   -- Where all tasks are entered, the first is, and then the others.
   granted : (at : ℕ) (rs : List Rec) (l m : Channels) (t : TaskRec) → entered g at (task_rec t ∷ rs) l ≡ (Ok tt, m) → entered g (at + 37) rs (set l t.channel (Some t.content)) ≡ (Ok tt, m)
   unfolding entered
   granted at rs l m t p = go (admitted g l t.channel t.content) p
     where
-      go : (r : Result (Unit {0}) Refusal) → ◌≡◌ {A = Done} (elim r [ Err e ↦ (Err (Refused e at), l) | Ok u ↦ entered g (at + 37) rs (set l t.channel (Some t.content)) ]) (Ok tt, m)
+      go : (r : Result (Unit {0}) Refusal) → ◌≡◌ {A = Filled} (elim r [ Err e ↦ (Err (Refused e at), l) | Ok u ↦ entered g (at + 37) rs (set l t.channel (Some t.content)) ]) (Ok tt, m)
           → entered g (at + 37) rs (set l t.channel (Some t.content)) ≡ (Ok tt, m)
       go (Ok u) q = q
-      go (Err e) q = clash (Refused e at) tt (ap (λ (x : Done). x.0) q)
+      go (Err e) q = clash (Refused e at) tt (ap (λ (x : Filled). x.0) q)
 
   -- Where all tasks are entered, those of the ledger then are those before and those of the records.
   all_entered : (b : Before) (at : ℕ) (rs : List Rec) (l m : Channels) → Lawful b rs → length l ≡ 64 → Empty (drop b.least l) → entered g at rs l ≡ (Ok tt, m) → tasks 0 m ≡ tasks 0 l ++ tasks_in rs
   unfolding entered
-  all_entered b at [] l m k n h p = ap (λ (x : Done). tasks 0 x.1) (sym p) ∙ sym (append-nil (tasks 0 l))
+  all_entered b at [] l m k n h p = ap (λ (x : Filled). tasks 0 x.1) (sym p) ∙ sym (append-nil (tasks 0 l))
   all_entered b at (frame_rec f ∷ rs) l m k n h p = all_entered (after b (frame_rec f)) (at + 14) rs l m k.1 n h p
   all_entered b at (task_rec t ∷ rs) l m k n h p =
       let w = task_passes b k.0.0 t k.0.1 in
@@ -64,11 +60,11 @@ module _ (g : Meaning) where
   again : (xs : List ℕ) (l : Channels) (fs before : List FrameParams) (x : Result (List Rec) RecordFault) → decode xs ≡ x → Bytes xs
       → filled g x blank ≡ (Ok tt, l) → taken x before ≡ (Ok tt, fs) → encode l fs ≡ xs
   unfolding decode
-  again xs l fs before (Err e) d h p q = clash (Record e) tt (ap (λ (y : Done). y.0) p)
+  again xs l fs before (Err e) d h p q = clash (Record e) tt (ap (λ (y : Filled). y.0) p)
   again xs l fs before (Ok rs) d h p q =
       let k = decoded_lawful xs rs d in
       let t : tasks 0 l ≡ tasks_in rs = all_entered start 0 rs blank l k refl (empty_blank 64) p in
-      let f : fs ≡ frames_in rs = ap (λ (y : Result (Unit {0}) RecordFault × List FrameParams). y.1) (sym q) in
+      let f : fs ≡ frames_in rs = ap (λ (y : Taken). y.1) (sym q) in
       ap image (ap₂ (λ (ts : List TaskRec) (gs : List FrameParams). map task_rec ts ++ map frame_rec gs) t f ∙ sorted start rs k) ∙ writes_back xs rs h d
 
 -- What is in every place holds of each element.

@@ -15,9 +15,17 @@ use Rattle.format.specs.declared.fault.PlanFault.TheVariants.{Record, Refused}
 use Rattle.format.specs.Records.{Rec, TaskRec, task_rec, frame_rec}
 use Rattle.format.specs.Decode.{frames_in}
 
+-- What taking frames answers, and the frames of the train then.
+abbrev pub Taken : Type 0
+Taken = Result (Unit {0}) RecordFault × List FrameParams
+
+-- What filling a plan answers, and the ledger then.
+abbrev pub Filled : Type 0
+Filled = Result (Unit {0}) PlanFault × Channels
+
 -- Taking the frames: the answer, and the frames of the train then, which are those of the image, or after a refusal
 -- those that it held.
-abbrev pub taken : Result (List Rec) RecordFault → List FrameParams → Result (Unit {0}) RecordFault × List FrameParams
+abbrev pub taken : Result (List Rec) RecordFault → List FrameParams → Taken
 taken (Ok rs) held = (Ok tt, frames_in rs)
 taken (Err e) held = (Err e, held)
 
@@ -42,7 +50,7 @@ entry_made (Err e) = Err e
 
 -- The tasks of the records from offset `at` on are admitted one after another, up to the first that is refused:
 -- the answer, and the ledger then, which keeps the tasks of earlier records.
-unfoldable pub entered : Meaning → ℕ → List Rec → Channels → Result (Unit {0}) PlanFault × Channels
+unfoldable pub entered : Meaning → ℕ → List Rec → Channels → Filled
 entered g at [] l = (Ok tt, l)
 entered g at (frame_rec f ∷ rs) l = entered g (at + 14) rs l
 entered g at (task_rec t ∷ rs) l = elim (admitted g l t.channel t.content) [
@@ -51,7 +59,7 @@ entered g at (task_rec t ∷ rs) l = elim (admitted g l t.channel t.content) [
 ]
 
 -- One task admitted: the answer, and the ledger then.
-abbrev pub one_entered : Meaning → ℕ → TaskRec → Channels → Result (Unit {0}) PlanFault × Channels
+abbrev pub one_entered : Meaning → ℕ → TaskRec → Channels → Filled
 one_entered g at t l = elim (admitted g l t.channel t.content) [
   | Err e ↦ (Err (Refused e at), l)
   | Ok u ↦ (Ok tt, slice_set l t.channel (Some t.content))
@@ -67,6 +75,6 @@ abbrev pub KeptAgain : Meaning → List Call → Channels → Type 0
 KeptAgain g before m = (ks : List Call) × Kept g before ks (answers_to g (after g blank before) ks) m
 
 -- Filling a plan over a guest that means `g`: the answer, and the ledger then.
-abbrev pub filled : Meaning → Result (List Rec) RecordFault → Channels → Result (Unit {0}) PlanFault × Channels
+abbrev pub filled : Meaning → Result (List Rec) RecordFault → Channels → Filled
 filled g (Err e) l = (Err (Record e), l)
 filled g (Ok rs) l = entered g 0 rs l

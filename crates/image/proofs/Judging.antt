@@ -28,19 +28,18 @@ use Rattle.format.specs.declared.fault.PlanFault.{PlanFault}
 use Rattle.format.specs.declared.fault.PlanFault.TheVariants.{Record, Refused}
 use Rattle.format.specs.Records.{Rec, task_rec, frame_rec, start, after}
 use Rattle.format.specs.Decode.{decode, tasks_in, frames_in}
-use Rattle.format.specs.Fills.{taken, entered}
+use Rattle.format.specs.Fills.{Taken, taken, entered}
 use Rattle.format.specs.Prefixes.{params, first_refused}
+use Rattle.format.proofs.Front.{clash}
 use Rattle.format.proofs.Rising.{Lawful, decoded_lawful, no_tasks, empty_blank}
 use Rattle.format.proofs.Prefixes.{Says, entering_says, laws_of, none_refused}
 use Rattle.image.specs.Verdict.{first_frame, busy_or_zero, over_plan, over_train, over_records, judged, by_first, one_by_one, YesMeans}
 
-abbrev Taken : Type 0
-Taken = Result (Unit {0}) RecordFault × List FrameParams
-
+-- The verdict of an image: the busy period, or the first fault.
 abbrev Judged : Type 0
 Judged = Result ℕ PlanFault
 
--- A list of tasks beside a train keeps the laws.
+-- A train keeps the laws, and so does a list of tasks beside it.
 pub laws_of_train : (train : RampTrain) → Laws (train_meaning (frames_of train))
 laws_of_train train = train_laws (frames_of train) (frames_ranged train)
 
@@ -49,10 +48,10 @@ laws_beside tasks train = laws_of (train_meaning (frames_of train)) (laws_of_tra
 
 -- Where the frames are not taken, the image was not read.
 not_taken : (x : Result (List Rec) RecordFault) (e : RecordFault) (fs held : List FrameParams) → ◌≡◌ {A = Taken} (Err e, fs) (taken x held) → ◌≡◌ {A = Judged} (Err (Record e)) (over_records x)
-not_taken (Ok rs) e fs held p = let q : Err e ≡ Ok tt = ap (λ (y : Taken). y.0) p in let z : ◌≡◌ {A = ℕ} 0 1 = cc in absurd (omega arith)
+not_taken (Ok rs) e fs held p = clash e tt (ap (λ (y : Taken). y.0) p)
 not_taken (Err f) e fs held p = let q : Err e ≡ Err f = ap (λ (y : Taken). y.0) p in let r : e ≡ f = cc in ap (λ (y : RecordFault). let j : Judged = Err (Record y) in j) r
 
-pub unread : (xs : List ℕ) (e : RecordFault) (fs held : List FrameParams) → ◌≡◌ {A = Result (Unit {0}) RecordFault × List FrameParams} (Err e, fs) (taken (decode xs) held) → ◌≡◌ {A = Result ℕ PlanFault} (Err (Record e)) (judged xs)
+pub unread : (xs : List ℕ) (e : RecordFault) (fs held : List FrameParams) → ◌≡◌ {A = Taken} (Err e, fs) (taken (decode xs) held) → ◌≡◌ {A = Result ℕ PlanFault} (Err (Record e)) (judged xs)
 unfolding judged
 unread xs e fs held p = not_taken (decode xs) e fs held p
 
@@ -62,12 +61,12 @@ pub record Read (xs : List ℕ) (fs : List FrameParams) : Type 0 where
   pub is : decode xs ≡ Ok records
   pub frames : fs ≡ frames_in records
 
-pub was_read : (xs : List ℕ) (fs held : List FrameParams) → ◌≡◌ {A = Result (Unit {0}) RecordFault × List FrameParams} (Ok tt, fs) (taken (decode xs) held) → Read xs fs
+pub was_read : (xs : List ℕ) (fs held : List FrameParams) → ◌≡◌ {A = Taken} (Ok tt, fs) (taken (decode xs) held) → Read xs fs
 was_read xs fs held p = go (decode xs) refl p
   where
     go : (x : Result (List Rec) RecordFault) → decode xs ≡ x → ◌≡◌ {A = Taken} (Ok tt, fs) (taken x held) → Read xs fs
     go (Ok rs) d q = record { records = rs; is = d; frames = ap (λ (y : Taken). y.1) q }
-    go (Err e) d q = let r : Ok tt ≡ Err e = ap (λ (y : Taken). y.0) q in let z : ◌≡◌ {A = ℕ} 0 1 = cc in absurd (omega arith)
+    go (Err e) d q = clash e tt (sym (ap (λ (y : Taken). y.0) q))
 
 -- The tasks of an image that was read come first, 37 bytes each, so the first frame is behind them.
 frame_place : (b : Before) (at : ℕ) (rs : List Rec) → Lawful b rs → first_frame at rs ≡ at + 37 * length (tasks_in rs)
@@ -96,7 +95,7 @@ yes_closes m l w e =
     let v : a.0.0 ≡ w = cc in
     a.0.1 ∙ ap {B = Option ℕ} Some v
 
--- Tasks that are accepted together.
+-- Tasks that are accepted together are accepted one by one.
 pub together : (g : Meaning) → Laws g → (ps : List TaskParams) → All TaskRanges ps → (w : ℕ) → Ok w ≡ walk (beside (tasks_meaning ps) g).amounts
     → ◌≡◌ {A = Result ℕ PlanFault} (Ok w) (one_by_one g ps)
 together g lg ps r w e =
@@ -124,7 +123,7 @@ module _ (xs : List ℕ) (fs : List FrameParams) (k : Read xs fs) (fr : All Fram
   pub train_refused : (v : Result ℕ Unfit) (e : PlanFault) (n : ℕ) (ps : List TaskParams) → v ≡ walk g.amounts
       → MatchResult v (λ w. ◌≡◌ {A = Result ℕ PlanFault} (Err e) (Ok w)) (λ u. e ≡ Refused (refusal_of u) (37 * n)) → ps ≡ params (tasks_in k.records) → n ≡ length ps
       → ◌≡◌ {A = Result ℕ PlanFault} (Err e) (judged xs)
-  train_refused (Ok w) e n ps v f p q = let z : ◌≡◌ {A = ℕ} 0 1 = cc in absurd (omega arith)
+  train_refused (Ok w) e n ps v f p q = clash e w f
   train_refused (Err u) e n ps v f p q =
       let m : 37 * n ≡ first_frame 0 k.records =
       omega (arith, frame_place start 0 k.records (decoded_lawful xs k.records k.is), ap length p, length-map (tasks_in k.records) (λ t. t.content.params)) in

@@ -20,7 +20,7 @@ use Rattle.image.specs.declared.outcome.Outcome.TheVariants as outcome
 use Rattle.format.specs.Faults.{plan_fault}
 use Rattle.format.specs.Records.{Rec, task_rec, frame_rec}
 use Rattle.format.specs.Decode.{decode, frames_in}
-use Rattle.format.specs.Fills.{entered}
+use Rattle.format.specs.Fills.{Filled, entered}
 use Rattle.format.specs.Prefixes.{first_refused}
 
 -- The offset of the first frame among records from `at` on, or of their end.
@@ -35,7 +35,7 @@ busy_or_zero (Some w) = w
 busy_or_zero None = 0
 
 -- The verdict on a plan filled over a guest that means `g`: the busy period of the plan as it finally stands.
-abbrev pub over_plan : Meaning → Result (Unit {0}) PlanFault × Channels → Result ℕ PlanFault
+abbrev pub over_plan : Meaning → Filled → Result ℕ PlanFault
 over_plan g (Err e, l) = Err e
 over_plan g (Ok u, l) = Ok (busy_or_zero (busy (plan g l).amounts))
 

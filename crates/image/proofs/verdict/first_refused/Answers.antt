@@ -19,6 +19,7 @@ use Rattle.image.proofs.Judging.{laws_beside}
 use Rattle.image.proofs.verdict.first_refused.Goals as goal
 use Rattle.image.proofs.verdict.first_refused.Goals.{After-unwrap, After-judge}
 
+-- What a place without a task gives.
 none : TaskParams
 none = task 0 0 0 0 0
 
@@ -28,7 +29,7 @@ one_less c =
     let s = rw c.unwrap.ensures at c.split_last.ensures.cases in
     omega (arith, s.1, ap length c.tasks.ensures, length-map c.tasks.result.now task_params)
 
--- After a turn one task more is held, and the verdict is over the train as it was at the start.
+-- After a turn one task more is held.
 held : (c : After-judge) → tasks_of c.push.new.self ≡ take (c.loop-i.i + 1) (tasks_of c.args.plan.now.first)
 held c =
     let s = rw c.unwrap.ensures at c.split_last.ensures.cases in
@@ -37,6 +38,7 @@ held c =
     one_more_held c.tasks.result.now (tasks_of c.args.plan.now.first) c.loop-i.i x (tasks_of c.loop-i.part.first) (tasks_of c.push.new.self) c.push.result
     c.tasks.ensures (omega (arith, s.1, c.loop-i-test.true)) p (list_few c.args.plan.now.first) c.loop-i.invariant.1 c.push.ensures
 
+-- The verdict of a turn is that on the tasks held, over the train as it was at the start.
 walked : (c : After-judge) → c.judge.result ≡ walk (beside (tasks_meaning (tasks_of c.push.new.self)) (train_meaning (frames_of c.args.plan.now.second))).amounts
 walked c = c.judge.ensures ∙ ap (λ (t : RampTrain). walk (beside (tasks_meaning (tasks_of c.push.new.self)) (train_meaning (frames_of t))).amounts) c.loop-i.invariant.0
 

@@ -1,4 +1,4 @@
--- The chain counts the filled channels, of 37 bytes each.
+-- The iterator over the channels counts the filled ones, of 37 bytes each.
 use Rattle.std.proofs.Common.{◌≡◌, ap, refl, Ok, Err, Result, length, arith, rules, tests}
 use Rattle.std.specs.List.{filter, range_with_len}
 use Rattle.std.specs.Result.{is_ok}
@@ -13,6 +13,7 @@ use Rattle.image.proofs.write.tasks_len.Given as given
 use Rattle.image.proofs.write.tasks_len.Goals as goal
 use Rattle.image.proofs.write.tasks_len.Goals.{After-count-filled}
 
+-- An entry that is read is a value exactly where the reading by plain numbers is.
 is_ok_read : (r : Result Entry Refusal) (x : Result Content Refusal) → read_entry r ≡ x → is_ok r ≡ is_ok x
 is_ok_read (Ok e) x p = ap is_ok p
 is_ok_read (Err e) x p = ap is_ok p

@@ -1,5 +1,5 @@
 -- Tasks, frames and end mark written in turn are the image, which reads back; a short buffer is left alone.
-use Rattle.std.proofs.Common.{◌≡◌, ℕ, List, map, length, sym, ap, ◌∙◌, arith, rules}
+use Rattle.std.proofs.Common.{◌≡◌, List, map, length, sym, ap, ◌∙◌, arith, rules}
 use Rattle.std.proofs.lemmas.List.{length-map}
 use Rattle.loads.specs.Making.{frame_params}
 use Rattle.loads.specs.Params.{FrameParams}
@@ -18,12 +18,9 @@ use Rattle.format.proofs.WriteTurns.{encode_parts, length_frames, length_encode,
 use Rattle.image.proofs.Writing.{wrote_then}
 use Rattle.image.proofs.write.write.Goals as goal
 
+-- The image of a plan over a train reads back, if calls make its ledger.
 back_of : (m : Meaning) → Laws m → (l : Channels) (t : RampTrain) (before : List Call) → l ≡ after m blank before → ReadsAgain m l (frames_of t)
 back_of m h l t before e = reads_again m h before l (frames_of t) e (frames_few t) (frames_ranged t)
-
--- What the writer leaves behind is what the buffer holds.
-left_behind : {xs ys zs : List ℕ} → xs ≡ ys → ys ≡ zs → xs ≡ zs
-left_behind p q = p ∙ q
 
 pub returns-then-total-out : goal.returns-then-total-out
 returns-then-total-out g c =
@@ -57,7 +54,7 @@ returns-clause-says g c =
     let m = length-map c.frames-frames.result.now frame_params in
     written_all (encode l fs) out _ _
     (omega (arith, m, length_encode l fs, c.tasks_len.ensures.value))
-    (left_behind (search rules) (w.bytes ∙ ap (placed out 0) (sym (encode_parts l fs))))
+    (search rules ∙ w.bytes ∙ ap (placed out 0) (sym (encode_parts l fs)))
     c.if-total-out.false
     ∙ ap (λ (gs : List FrameParams). written (encode l gs) out) c.frames-frames.ensures.same
 

@@ -16,6 +16,7 @@ items c r e =
     ∙ items_from c.args.self.now.image.now c.in_ok-at.at
     ∙ ap (onward c.args.self.now.image.now c.in_ok-at.at) (sym c.next_part.ensures ∙ ap shown e)
 
+-- Without its first item a list is shorter.
 fewer : (is js : List Item) (i : Item) → is ≡ i ∷ js → length js < length is
 fewer is js i e = omega (arith, ap length e)
 

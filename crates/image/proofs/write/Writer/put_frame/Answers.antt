@@ -1,3 +1,4 @@
+-- The fields written one after another are the bytes of the record.
 use Rattle.std.proofs.Common.{ap, ◌∙◌}
 use Rattle.format.specs.Bytes.{bytes}
 use Rattle.format.proofs.Places.{be_4}

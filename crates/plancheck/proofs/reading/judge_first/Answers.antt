@@ -1,3 +1,4 @@
+-- The verdict is that of the first 4,096 bytes that the source had left.
 use Rattle.std.proofs.Common.{◌≡◌, ℕ, take, IfSome, option_map, rules}
 use Rattle.image.specs.Verdict.{judged, told, YesMeans}
 use Rattle.image.specs.declared.outcome.Outcome.TheVariants.{Yes as yes}

@@ -51,6 +51,7 @@ fn said(answer: Answer) -> Result<&'static str, Refusal> {
     })
 }
 
+/// Loads without work, and tables of one and two tasks; those of docs/MODEL.md are among them.
 #[test]
 fn verdicts(rt: HostRuntime) -> Result<(), Fail> {
     both_say(&rt, &Idle::new(), Ok(0));
@@ -76,6 +77,7 @@ fn verdicts(rt: HostRuntime) -> Result<(), Fail> {
     Ok(())
 }
 
+/// Six tasks with jitter and sections.
 #[test]
 fn six_tasks(rt: HostRuntime) -> Result<(), Fail> {
     let table = table_of(&[
@@ -104,6 +106,7 @@ fn longest(rt: HostRuntime) -> Result<(), Fail> {
     Ok(())
 }
 
+/// Thirteen calls and their answers. There is one place more, which keeps what stood in it.
 #[test]
 fn calls(rt: HostRuntime) -> Result<(), Fail> {
     let first = entry(LABEL, (2, 5, 4, 0, 0))?;
@@ -152,6 +155,7 @@ fn calls(rt: HostRuntime) -> Result<(), Fail> {
     Ok(())
 }
 
+/// A plan over a plan, whose task counts beside its own.
 #[test]
 fn a_plan_as_guest(rt: HostRuntime) -> Result<(), Fail> {
     let mut inner = Plan::make(Idle::new());

@@ -9,8 +9,8 @@ use plan::plan::Plan;
 /// How many bytes the largest image takes: 64 tasks, 16 frames, the end mark.
 const LARGEST: usize = 64 * TASK + 16 * FRAME + 2;
 
-/// Fills a new plan with an image and writes the plan again: whether the bytes are the same. A fault where the plan
-/// is refused.
+/// Fills a new plan with an image and writes the plan again: whether the bytes are the same, or the fault where the
+/// image or a task of it is refused.
 pub(crate) fn comes_back(image: &[u8]) -> Result<bool, PlanFault> {
     let mut train = RampTrain::new();
     take_frames(&mut train, image)?;

@@ -32,7 +32,7 @@ fn main(rt: HostRuntime) -> io::Result<()> {
     let heap = rt.alloc();
     for line in BufReader::new(heap, rt.stdin())?.lines(heap) {
         let line = line?;
-        // `decode` would tell that memory has run out by an error of its own, beside those of a bad line.
+        // `hex::decode` would tell by an error of its own, beside those of a bad line, that memory has run out.
         let mut image = vec![in heap; 0u8; line.len() / 2]?;
         match hex::decode_to_slice(line.as_str(), image.as_mut_slice()) {
             Ok(()) => report(&rt, image.as_slice())?,

@@ -151,6 +151,7 @@ module _ (g : Meaning) (lg : Laws g) where
 -- One more task at a time: what is left to come tells where the first refusal is.
 module _ (g : Meaning) (ps qs : List TaskParams) (i : ℕ) (d : TaskParams) (h : suc i ≤ length ps) (same : qs ≡ take (i + 1) ps) (laws : Laws (beside (tasks_meaning qs) g))
     (inv : first_refused g (37 * i) (take i ps) (drop i ps) ≡ first_refused g 0 [] ps) where
+  -- The first refusal from task i on, by the verdict on the tasks up to it.
   by : Result ℕ Unfit → Option (Unfit × ℕ)
   by v = elim v [ Err u ↦ Some (u, 37 * i) | Ok w ↦ first_refused g (37 * i + 37) (take (i + 1) ps) (drop (i + 1) ps) ]
 

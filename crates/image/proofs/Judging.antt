@@ -79,13 +79,13 @@ none_beside : (g : Meaning) → (beside (tasks_meaning []) g).amounts ≡ g.amou
 unfolding beside both tasks_meaning tasks_amounts
 none_beside g = λ i. record {
   due = λ t. zero-add (g.amounts.due t) i;
-  held = λ t. largest_of_zero (g.amounts.held t) i;
+  held = λ t. max_zero (g.amounts.held t) i;
   ready = λ s. zero-add (g.amounts.ready s) i;
   mark = g.amounts.mark;
 }
   where
-    largest_of_zero : (n : ℕ) → max 0 n ≡ n
-    largest_of_zero n = omega arith
+    max_zero : (n : ℕ) → max 0 n ≡ n
+    max_zero n = omega arith
 
 -- A yes closes at the busy period that it names.
 yes_closes : (m : Amounts) → Rules m → (w : ℕ) → Ok w ≡ walk m → busy m ≡ Some w

@@ -1,4 +1,4 @@
--- The frames, the train alone, and the tasks over it.
+-- The verdict of an image, from the reading of it, the verdict on its train alone and that on the tasks over it.
 use Rattle.std.proofs.Common.{◌≡◌, ℕ, ◌*◌, [], length, Ok, Err, Result, sym, ap, ◌∙◌, arith, rules}
 use Rattle.std.specs.Result.{MatchResult}
 use Rattle.std.proofs.lemmas.List.{nil_from_length, length-map}

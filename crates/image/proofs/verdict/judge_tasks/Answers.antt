@@ -1,4 +1,4 @@
--- Accepted together, or told by the first that is refused.
+-- The verdict on tasks that are accepted together is their busy period, on others the first refusal.
 use Rattle.std.proofs.Common.{◌∙◌}
 use Rattle.theory.proofs.Verdicts.{accepted_ok}
 use Rattle.theory.proofs.Walk.{walk_is_look}

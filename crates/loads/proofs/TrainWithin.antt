@@ -113,6 +113,7 @@ most_split ends c (f ∷ fs) a e =
         let t = sum_circle (λ f. f.cost * (ends f / c)) k (f ∷ fs) in
         omega arith
 
+-- What is due by t, each frame released before t + 1 less its deadline; and what is ready within s, each before s.
 pub due_split : (t c : ℕ) (fs : List FrameParams) → All FrameRanges fs → c ≡ cycle fs
     → sum_along (λ f o. f.cost * ((t + 1 - f.deadline) / c)) 0 fs + largest_of (λ k. within (λ f. (t + 1 - f.deadline) % c) 0 (circle_from k fs)) (length fs)
     ≡ (train_amounts fs).due t

@@ -6,12 +6,14 @@ use Rattle.theory.specs.Verdict.{busy}
 use Rattle.theory.proofs.BusyPeriod.{busy_idle, busy_at, busy_none}
 use Rattle.judge.proofs.Questions.{answered_at}
 
+-- Nothing is ready within 1 tick, by the answer `r`: the busy period is 0. And else something is.
 pub idle : (m : Amounts) (r : ℕ) → r ≡ answered m.ready 1 → r ≡ 0 → Some 0 ≡ busy m
 idle m r e z = sym (busy_idle m (omega arith))
 
 pub works : (m : Amounts) (r : ℕ) → r ≡ answered m.ready 1 → (r ≡ 0 → ⊥) → m.ready 1 ≡ 0 → ⊥
 works m r e n z = n (omega arith)
 
+-- The search stands at w: no fixed point is below it, and it can only go up from here.
 abbrev pub Searched : Amounts → ℕ → Type 0
 Searched m w = (1 ≤ w) × (w ≤ 100000000) × (w ≤ m.ready w) × ((v : ℕ) → 1 ≤ v → v < w → m.ready v ≡ v → ⊥)
 
@@ -19,6 +21,7 @@ module _ (m : Amounts) (l : Rules m) (w next : ℕ) (inv : Searched m w) (e : ne
   next_is : next ≡ min (m.ready w) (2 ^ 40)
   next_is = e ∙ answered_at m.ready w inv.1
 
+  -- the three ways of a turn, `next` being the answer at w: w is found, there is none, or the search goes on at `next`
   pub search_closed : (m.ready 1 ≡ 0 → ⊥) → next ≡ w → Some w ≡ busy m
   search_closed works z = sym (busy_at m w works inv.0 inv.1 (omega (arith, next_is)) inv.3)
 

@@ -9,6 +9,7 @@ use Rattle.theory.proofs.Claims.{claim_cases}
 pub answered_at : (f : ℕ → ℕ) (t : ℕ) → t ≤ 100000000 → answered f t ≡ min (f t) (2 ^ 40)
 answered_at f t h = ap (λ x. min (f x) (2 ^ 40)) (let e : min t 100000000 ≡ t = omega arith in e)
 
+-- The claim from the answers d and h to due and held: nothing where d is 0, and else their sum, where none is cut.
 pub claim_nothing : (m : Amounts) (t d : ℕ) → t ≤ 100000000 → d ≡ answered m.due t → d ≡ 0 → 0 ≡ claim m t
 claim_nothing m t d h e z = omega (arith, answered_at m.due t h, claim_cases m t)
 
@@ -23,6 +24,7 @@ claim_something m l t d h a b e f n =
           omega (arith, l.due_zero, claim_cases m t))
     ]
 
+-- The last mark up to t, as the question below t + 1 answers it.
 upto : (k : ℕ → Bool) (t : ℕ) (o : Option ℕ) → t < 100000000 → o ≡ last_mark k (min (t + 1) 100000000) → Last k (suc t) o
 upto k t o h e =
     let n : min (t + 1) 100000000 ≡ suc t = omega arith in

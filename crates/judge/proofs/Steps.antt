@@ -1,5 +1,5 @@
 -- Each step of judge and audit keeps the verdict on what is left to look at, so both end with theirs.
-use Rattle.std.proofs.Common.{◌≡◌, ℕ, suc, ◌+◌, ◌-◌, ◌^◌, ◌<◌, ◌≤◌, min, Bool, true, false, Some, None, Ok, Err, Option, sym, refl, ap, ◌∙◌, subst, inl, inr, add-one, arith}
+use Rattle.std.proofs.Common.{◌≡◌, ℕ, suc, ◌+◌, ◌-◌, ◌^◌, ◌<◌, ◌≤◌, min, Bool, true, false, Some, None, Ok, Err, Option, sym, refl, ap, ◌∙◌, subst, inl, inr, arith}
 use Rattle.theory.specs.declared.verdict.Unfit.TheVariants.{Late}
 use Rattle.theory.specs.Meaning.{Amounts, Rules, claim, last_mark}
 use Rattle.theory.specs.Verdict.{busy, look_below, found, walk, look}
@@ -15,10 +15,11 @@ abbrev pub Placed : Amounts → ℕ → Option ℕ → Type 0
 Placed m w None = Unit {0}
 Placed m w (Some t) = (t < w) × Stands m t
 
--- What is left to look at decides the verdict.
+-- The walk goes on from `o`: it may stand there, and the look from there on finds what the whole look does.
 abbrev pub Going : Amounts → ℕ → Option ℕ → Type 0
 Going m w o = Placed m w o × (look_below m w ≡ onward m o)
 
+-- How many ticks the walk has still below it, its own among them: the loop's measure.
 abbrev pub left : Option ℕ → ℕ
 left None = 0
 left (Some t) = t + 1
@@ -32,12 +33,15 @@ left_less k t o p e q =
     let a : left o < t + 1 = left_last k t (min t 100000000) o (omega arith) (subst (λ x. Last k (min t 100000000) x) (sym e) (last_says k (min t 100000000))) in
     omega (arith, ap left q)
 
+-- The busy period closes at w: up to there no argument of a question and no answer is cut.
 module _ (m : Amounts) (l : Rules m) (w : ℕ) (b : Some w ≡ busy m) where
   pub short : w ≤ 100000000
   short = (closed m l w (sym b)).within
 
   pub uncut : (t : ℕ) → t < w → m.ready t ≤ 2 ^ 40
   uncut t h = omega (arith, closed m l w (sym b), l.ready_mono t w (omega arith))
+
+  -- the walk: each way to go on keeps `Going`, and where it ends its verdict is given
 
   placed_last : (t : ℕ) → t ≤ w → (o : Option ℕ) → Last m.mark t o → Placed m w o
   placed_last t h None says = tt

@@ -1,4 +1,4 @@
--- One channel changed, by what the channels hold.
+-- A slot of the code changed is a channel put, and no other changed.
 use Rattle.std.proofs.Common.{◌≡◌, ℕ, ◌≤◌, false, ltb, List, map, set, Ok, Option, Result, ap, ◌∙◌}
 use Rattle.std.proofs.lemmas.List.{map-set}
 use Rattle.std.proofs.lemmas.Bool.{le-ltb}

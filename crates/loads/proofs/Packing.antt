@@ -10,16 +10,17 @@ use Rattle.loads.specs.Params.{TaskParams}
 use Rattle.loads.specs.Making.{task_params}
 use Rattle.loads.specs.Lists.{appended}
 
-abbrev Answer : Type 0
-Answer = Result (Unit {0}) Refusal × List TaskParams
+-- What appending gives: an answer, and the tasks after it.
+abbrev Appended : Type 0
+Appended = Result (Unit {0}) Refusal × List TaskParams
 
 -- An appended task stands at the end, where there is room.
-pub append_is : (xs ys : List TaskParams) (x : TaskParams) (r : Result (Unit {0}) Refusal) → length xs < 64 → ◌≡◌ {A = Result (Unit {0}) Refusal × List TaskParams} (r, ys) (appended xs x) → ys ≡ xs ++ (x ∷ [])
-append_is xs ys x r h e = ap (λ (a : Answer). a.1) (e ∙ cond-true {A = Answer} (ltb (length xs) 64) (Ok tt, xs ++ (x ∷ [])) (Err NoChannel, xs) (lt-ltb (length xs) 64 h))
+append_is : (xs ys : List TaskParams) (x : TaskParams) (r : Result (Unit {0}) Refusal) → length xs < 64 → ◌≡◌ {A = Appended} (r, ys) (appended xs x) → ys ≡ xs ++ (x ∷ [])
+append_is xs ys x r h e = ap (λ (a : Appended). a.1) (e ∙ cond-true {A = Appended} (ltb (length xs) 64) (Ok tt, xs ++ (x ∷ [])) (Err NoChannel, xs) (lt-ltb (length xs) 64 h))
 
 -- The first i of some tasks are held, and the next one is appended: then the first i + 1 are.
 pub one_more_held : (xs : List Task) (ps : List TaskParams) (i : ℕ) (x : Task) (qs rs : List TaskParams) (r : Result (Unit {0}) Refusal) → map task_params xs ≡ ps → i < length xs → x ≡ get_or xs i x
-    → length ps ≤ 64 → qs ≡ take i ps → ◌≡◌ {A = Result (Unit {0}) Refusal × List TaskParams} (r, rs) (appended qs (task_params x)) → rs ≡ take (i + 1) ps
+    → length ps ≤ 64 → qs ≡ take i ps → ◌≡◌ {A = Appended} (r, rs) (appended qs (task_params x)) → rs ≡ take (i + 1) ps
 one_more_held xs ps i x qs rs r e h q few t p =
     let n : length qs ≤ i = omega (arith, ap length t, length-take i ps) in
     let m : length ps ≡ length xs = omega (arith, ap length e, length-map xs task_params) in

@@ -16,6 +16,7 @@ use Rattle.loads.specs.Places.{params_behind}
 use Rattle.loads.specs.Tasks.{total, largest, any, task_mark}
 use Rattle.loads.specs.TaskMarks.{last_cons}
 
+-- The last mark of the tasks below t.
 abbrev pub last_of : List TaskParams → ℕ → Option ℕ
 last_of xs t = last_mark (λ u. any (λ x. task_mark x u) xs) t
 
@@ -28,13 +29,14 @@ module _ {P : Type 0} (held : P → Option TaskParams) (ps : List P) (i : ℕ) w
   abbrev pub after : List TaskParams
   after = filter_map held (drop (i + 1) ps)
 
+  -- the tasks of all places
   abbrev pub all : List TaskParams
   all = filter_map held ps
 
   none_ahead : length ps ≤ i → ahead ≡ []
   none_ahead h = at_drop_all (filter_map held) ps i h
 
-  -- at the end: a sum cut at 2^40, the largest, the last mark
+  -- at the end: a sum cut at 2^40, which is 1099511627776, the largest, and the last mark
   pub total_end : (f : TaskParams → ℕ) (a : ℕ) → length ps ≤ i → a ≤ 1099511627776 → min (a + total f ahead) 1099511627776 ≡ min (total f all) 1099511627776 → a ≡ min (total f all) 1099511627776
   total_end f a h l v = omega (arith, ap (total f) (none_ahead h))
 
@@ -52,7 +54,7 @@ module _ {P : Type 0} (held : P → Option TaskParams) (ps : List P) (i : ℕ) w
     pub skip : option_map params_behind None ≡ held p → ahead ≡ after
     skip q = one_ahead None q
 
-    -- a place with a task
+    -- a place with a task: what it adds is cut at the largest u64, and then at 2^40
     module _ (x : Bor Task) (q : option_map params_behind (Some x) ≡ held p) where
       pub total_turn : (f : TaskParams → ℕ) (a n w : ℕ) → n ≡ f (params_behind x) → min (a + total f ahead) 1099511627776 ≡ w → min (min (min (a + n) 18446744073709551615) 1099511627776 + total f after) 1099511627776 ≡ w
       total_turn f a n w k v = omega (arith, ap (total f) (one_ahead (Some x) q))

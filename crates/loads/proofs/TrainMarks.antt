@@ -5,6 +5,7 @@ use lib.ListN.{length-map}
 use mathlib.Core.Path.{fun_ext}
 use native.Mathlib.Nat.{mod-le, mod-add-div', mul-mod_left, mul-add-mod_self_right, add-mod_right}
 use Rattle.std.specs.List.{fold, range_with_len}
+use Rattle.std.proofs.Math.Bool.{or_assoc}
 use Rattle.std.proofs.lemmas.List.{drop_all, drop_more, get_or-map}
 use Rattle.std.proofs.lemmas.List.Sums.{sum_by-take-drop}
 use Rattle.std.proofs.lemmas.List.Recursion.{is_sum_by}
@@ -19,7 +20,8 @@ use Rattle.loads.specs.Train.{cycle, circle_from, any_of, hits, mark_from, train
 use Rattle.loads.specs.TrainRests.{params, gaps, EachRest}
 use Rattle.loads.proofs.TrainSums.{with_rest, circle_map, fold_turn}
 
--- The last of a, a + c, a + 2 * c, .. below t.
+-- The last of the ticks a, a + c, a + 2 * c, .. below t: none while t is at most a, and else the remainder of
+-- t - 1 - a by c before t - 1.
 pub last_hit_none : (c t o d : ℕ) → t ≤ o + d → None ≡ last_mark (λ u. hits c u (o + d)) t
 last_hit_none c t o d h = sym (last_is (λ u. hits c u (o + d)) t None (λ u l. and_left (leb (o + d) u) (eqb ((u - (o + d)) % c) 0) (lt-leb (o + d) u (omega arith))))
 
@@ -44,7 +46,8 @@ last_hit_some c t a p h = sym (last_is (λ u. hits c u a) t (Some (t - 1 - (t - 
         let z : (u - a) % c ≡ u - (t - 1 - (t - 1 - a) % c) = ap (λ x. x % c) e ∙ mul-add-mod_self_right ((t - 1 - a) / c) c (u - (t - 1 - (t - 1 - a) % c)) ∙ mod-eq_of_lt w in
         and_right (leb a u) (eqb ((u - a) % c) 0) (ne_eqb ((u - a) % c) 0 (λ y. omega arith))
 
--- How far the last tick below t is past the last of o + d, o + d + c, .., with o below c, from r, the same of d, d + c, ..
+-- A frame with deadline d, released at tick o of a round of c ticks. The tick t - 1 is r ticks past the last of
+-- d, d + c, .., and so past the last of o + d, o + d + c, .. by r - o where o is at most r, and else by r + c - o.
 back_early : (c t o d r : ℕ) → o < c → o + d < t → r ≡ (t - 1 - d) % c → o ≤ r → r - o ≡ (t - 1 - (o + d)) % c
 back_early c t o d r h l p k =
     let s = mod-add-div' (t - 1 - d) c in
@@ -52,19 +55,20 @@ back_early c t o d r h l p k =
     let e : t - 1 - (o + d) ≡ (t - 1 - d) / c * c + (r - o) = omega arith in
     sym (ap (λ x. x % c) e ∙ mul-add-mod_self_right ((t - 1 - d) / c) c (r - o) ∙ mod-eq_of_lt (omega arith))
 
-pub back_late : (c t o d r : ℕ) → o < c → o + d < t → r ≡ (t - 1 - d) % c → r < o → r + c - o ≡ (t - 1 - (o + d)) % c
+back_late : (c t o d r : ℕ) → o < c → o + d < t → r ≡ (t - 1 - d) % c → r < o → r + c - o ≡ (t - 1 - (o + d)) % c
 back_late c t o d r h l p k =
     let s = mod-add-div' (t - 1 - d) c in
     let e : t - 1 - (o + d) + c ≡ (t - 1 - d) / c * c + (r + c - o) = omega arith in
     sym (sym (add-mod_right (t - 1 - (o + d)) c) ∙ ap (λ x. x % c) e ∙ mul-add-mod_self_right ((t - 1 - d) / c) c (r + c - o) ∙ mod-eq_of_lt (omega arith))
 
+-- The frame's last deadline below t, in either case.
 pub last_early : (c t o d r : ℕ) → o < c → o + d < t → r ≡ (t - 1 - d) % c → o ≤ r → Some (t - 1 - (r - o)) ≡ last_mark (λ u. hits c u (o + d)) t
 last_early c t o d r h l p k = ap (λ x. Some (t - 1 - x)) (back_early c t o d r h l p k) ∙ last_hit_some c t (o + d) (omega arith) l
 
 pub last_late : (c t o d r : ℕ) → o < c → o + d < t → r ≡ (t - 1 - d) % c → r < o → Some (t - 1 - (r + c - o)) ≡ last_mark (λ u. hits c u (o + d)) t
 last_late c t o d r h l p k = ap (λ x. Some (t - 1 - x)) (back_late c t o d r h l p k) ∙ last_hit_some c t (o + d) (omega arith) l
 
--- One turn of the loop over the frames, and its end.
+-- A loop over the frames, `last` being what is found so far: one turn takes in frame i, and at the end none is left.
 pub last_next : (c t off : ℕ) (fs : List FrameRest) (i : ℕ) (f : FrameRest) (gap : ℕ) (last hit both whole : Option ℕ) → i < length fs → f ≡ get_or fs i f
     → gap ≡ f.frame.gap → hit ≡ last_mark (λ u. hits c u (off + f.frame.deadline)) t → both ≡ later last hit
     → later last (last_mark (λ u. mark_from c u off (map params (drop i fs))) t) ≡ whole
@@ -85,24 +89,21 @@ last_end c t off fs i last h =
     ap (λ gs. later last (last_mark (λ u. mark_from c u off (map params gs)) t)) (drop_all i fs h)
     ∙ ap (later last) (last_none t) ∙ later_none last
 
-or_assoc : (a b c : Bool) → (a || (b || c)) ≡ ((a || b) || c)
-or_assoc true b c = refl
-or_assoc false b c = refl
-
+-- The marks of one run and of another one after it.
 mark_append : (c u off : ℕ) (xs ys : List FrameParams) → mark_from c u off (xs ++ ys) ≡ (mark_from c u off xs || mark_from c u (off + cycle xs) ys)
 unfolding mark_from cycle
 mark_append c u off [] ys = rw add-zero
 mark_append c u off (x ∷ xs) ys =
     ap (λ b. hits c u (off + x.deadline) || b) (mark_append c u (off + x.gap) xs ys)
     ∙ ap (λ n. hits c u (off + x.deadline) || (mark_from c u (off + x.gap) xs || mark_from c u n ys)) (add_assoc off x.gap (cycle xs))
-    ∙ or_assoc (hits c u (off + x.deadline)) (mark_from c u (off + x.gap) xs) (mark_from c u (off + (x.gap + cycle xs)) ys)
+    ∙ sym (or_assoc (hits c u (off + x.deadline)) (mark_from c u (off + x.gap) xs) (mark_from c u (off + (x.gap + cycle xs)) ys))
 
 gaps_cycle : (fs : List FrameRest) → gaps fs ≡ cycle (map params fs)
 unfolding cycle
 gaps_cycle [] = refl
 gaps_cycle (f ∷ fs) = ap (λ n. f.frame.gap + n) (gaps_cycle fs)
 
--- The parts of a circle.
+-- A circle cut at place k: the gaps of its parts, and their rests.
 pub gaps_parts : (k : ℕ) (fs : List FrameRest) → gaps (take k fs) + gaps (drop k fs) ≡ gaps fs
 gaps_parts k fs =
     let g = is_sum_by gaps (λ f. f.frame.gap) refl (λ _ _. refl) in
@@ -123,13 +124,13 @@ last_append c t off xs ys =
     ∙ last_either (λ u. mark_from c u off (map params xs)) (λ u. mark_from c u (off + cycle (map params xs)) (map params ys)) t
     ∙ ap (λ n. later (last_mark (λ u. mark_from c u off (map params xs)) t) (last_mark (λ u. mark_from c u (off + n) (map params ys)) t)) (sym (gaps_cycle xs))
 
--- The last mark of several, one after another.
 later_comm : (a b : Option ℕ) → later a b ≡ later b a
 later_comm None None = refl
 later_comm None (Some b) = refl
 later_comm (Some a) None = refl
 later_comm (Some a) (Some b) = ap Some (omega arith)
 
+-- The last mark of any of n sets of marks, taken in one after another.
 pub last_fold : (g : ℕ → ℕ → Bool) (t n : ℕ) → fold later None (map (λ k. last_mark (g k) t) (range_with_len 0 n)) ≡ last_mark (λ u. any_of (λ k. g k u) n) t
 unfolding any_of
 last_fold g t zero = sym (last_none t)
@@ -139,7 +140,7 @@ last_fold g t (suc n) =
     ∙ later_comm _ (last_mark (g n) t)
     ∙ sym (last_either (g n) (λ u. any_of (λ k. g k u) n) t)
 
--- Of the frames with their rests, as they are written.
+-- The frames with their rests are still the same frames, whatever the rests.
 params_written : (rest : FrameParams → ℕ) (fs : List Frame) → map params (map (with_rest rest) fs) ≡ map frame_params fs
 params_written rest [] = refl
 params_written rest (f ∷ fs) = ap (λ ps. frame_params f ∷ ps) (params_written rest fs)

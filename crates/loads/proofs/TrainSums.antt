@@ -1,4 +1,4 @@
--- The sums over the frames of a train.
+-- The sums over the frames of a train, as its records keep them and its loops count them.
 use Rattle.std.proofs.Common.{◌≡◌, ℕ, zero, suc, ◌+◌, ◌*◌, ◌<◌, ◌≤◌, max, cond, ltb, List, [], ◌∷◌, ◌++◌, map, length, get_or, take, drop, set, sym, refl, ap, ap₂, ◌∙◌, arith, add-one, zero-add, add-zero, add_assoc, length-append, length-drop, length-take, take_all}
 use mathlib.Core.List.{map-append}
 use lib.ListN.{length-map}
@@ -17,7 +17,7 @@ use Rattle.loads.specs.Train.{cycle, circle_from, largest_of, sum_along, within,
 use Rattle.loads.specs.TrainCircle.{largest_le, largest_same}
 use Rattle.loads.specs.TrainRests.{gaps, cost_within}
 use Rattle.loads.specs.TrainTally.{cond_le}
-use Rattle.loads.proofs.TrainWithin.{sum_still}
+use Rattle.loads.proofs.TrainWithin.{sum_any_start}
 
 pub cycle_sum : (fs : List Frame) → cycle (map frame_params fs) ≡ sum_by (λ (f : Frame). f.gap) fs
 unfolding cycle
@@ -32,26 +32,27 @@ sum_most : (g : Frame → ℕ) → ((f : Frame) → g f ≤ 10000000) → (fs : 
 sum_most g b [] = omega arith
 sum_most g b (f ∷ fs) = omega (arith, sum_by-cons g f fs, sum_most g b fs, b f)
 
--- The sums that a train keeps are those of at most sixteen frames.
+-- The sums that a train keeps are those of at most sixteen frames, of at most 10,000,000 each.
 pub few_gaps : (r : RampTrain) → r.round ≤ 160000000
 few_gaps r = omega (arith, r.gaps, sum_most (λ f. f.gap) (λ f. f.gap_range.1) (items_of r.frames), items_few r.frames)
 
 pub few_costs : (r : RampTrain) → r.work ≤ 160000000
 few_costs r = omega (arith, r.costs, sum_most (λ f. f.cost) (λ f. f.cost_range.1) (items_of r.frames), items_few r.frames)
 
--- A sum of what does not depend on the release.
-pub still_sum : (g : FrameParams → ℕ) (fs : List Frame) → sum_along (λ f o. g f) 0 (map frame_params fs) ≡ sum_by (λ (f : Frame). g (frame_params f)) fs
+-- What does not depend on the release is summed up frame by frame.
+pub sum_by_frame : (g : FrameParams → ℕ) (fs : List Frame) → sum_along (λ f o. g f) 0 (map frame_params fs) ≡ sum_by (λ (f : Frame). g (frame_params f)) fs
 unfolding sum_along
-still_sum g = is_sum_by (λ fs. sum_along (λ f o. g f) 0 (map frame_params fs)) (λ f. g (frame_params f)) refl
-    (λ f fs. ap (λ n. g (frame_params f) + n) (sum_still g (0 + f.gap) 0 (map frame_params fs)))
+sum_by_frame g = is_sum_by (λ fs. sum_along (λ f o. g f) 0 (map frame_params fs)) (λ f. g (frame_params f)) refl
+    (λ f fs. ap (λ n. g (frame_params f) + n) (sum_any_start g (0 + f.gap) 0 (map frame_params fs)))
 
 pub work_sum : (fs : List Frame) → sum_along (λ f o. f.cost) 0 (map frame_params fs) ≡ sum_by (λ (f : Frame). f.cost) fs
-work_sum = still_sum (λ f. f.cost)
+work_sum = sum_by_frame (λ f. f.cost)
 
--- The frames with their rests.
+-- A frame with its rest.
 abbrev pub with_rest : (FrameParams → ℕ) → Frame → FrameRest
 with_rest rest f = record { frame = f; rest = rest (frame_params f) }
 
+-- The cost released within the rests, as the code's list has it and as the definition has it.
 rests_within : (rest : FrameParams → ℕ) (off : ℕ) (fs : List Frame) → cost_within off (map (with_rest rest) fs) ≡ within rest off (map frame_params fs)
 unfolding sum_along
 rests_within rest off [] = refl
@@ -61,6 +62,7 @@ pub circle_map : {A B : Type 0} (g : A → B) (k : ℕ) (xs : List A) → circle
 unfolding circle_from
 circle_map g k xs = ap₂ ◌++◌ (drop-map g k xs) (take-map g k xs) ∙ sym (map-append g (drop k xs) (take k xs))
 
+-- The largest such cost over the beginnings of the circle, where the places `ls` hold the frames with their rests.
 pub most_rests : (rest : FrameParams → ℕ) (fs : List Frame) (ls : List FrameRest) → ls ≡ map (with_rest rest) fs
     → largest_of (λ k. cost_within 0 (circle_from k ls)) (length ls) ≡ largest_of (λ k. within rest 0 (circle_from k (map frame_params fs))) (length (map frame_params fs))
 most_rests rest fs ls e =
@@ -69,7 +71,7 @@ most_rests rest fs ls e =
     ∙ largest_same _ _ (length (map frame_params fs))
     (λ k _. ap (cost_within 0) (circle_map (with_rest rest) k fs) ∙ rests_within rest 0 (circle_from k fs) ∙ ap (within rest 0) (sym (circle_map frame_params k fs)))
 
--- A fold over 0, 1, .. n, and the largest as a fold.
+-- One turn of a fold over 0, 1, .. n - 1, and the largest as such a fold.
 pub fold_turn : {A B : Type 0} (h : B → A → B) (z : B) (g : ℕ → A) (n : ℕ) → fold h z (map g (range_with_len 0 (suc n))) ≡ h (fold h z (map g (range_with_len 0 n))) (g n)
 fold_turn h z g n =
     ap (λ m. fold h z (map g (range_with_len 0 m))) (sym (add-one n))
@@ -81,7 +83,7 @@ unfolding largest_of
 most_fold g zero = refl
 most_fold g (suc n) = fold_turn max 0 g n ∙ omega (arith, most_fold g n)
 
--- Of one run and of another one after it.
+-- The cost within the rests of one run and of another one after it.
 pub cost_append : (off : ℕ) (xs ys : List FrameRest) → cost_within off (xs ++ ys) ≡ cost_within off xs + cost_within (off + gaps xs) ys
 cost_append off [] ys = rw add-zero (omega arith)
 cost_append off (x ∷ xs) ys = rw (← add_assoc off x.frame.gap (gaps xs)) (omega (arith, cost_append (off + x.frame.gap) xs ys))
@@ -95,7 +97,7 @@ unfolding circle_from
 most_small ls h = largest_le (λ k. cost_within 0 (drop k ls ++ take k ls)) (length ls) 160000000
     (λ k l. omega (arith, cost_most 0 (drop k ls ++ take k ls), length-append (drop k ls) (take k ls), length-drop k ls, length-take k ls))
 
--- What is written so far, one more, and all of it.
+-- The first i places hold what `g` gives of the first i elements: one more is written, and then all are.
 pub written_more : {A B : Type 0} (g : A → B) (xs : List A) (ys : List B) (i : ℕ) (x : A) (y : B) → i < length xs → i < length ys → x ≡ get_or xs i x → y ≡ g x
     → take i ys ≡ map g (take i xs) → take (i + 1) (set ys i y) ≡ map g (take (i + 1) xs)
 written_more g xs ys i x y h l e p q = take_more_set ys i y l ∙ ap₂ (λ zs z. zs ++ (z ∷ [])) q (p ∙ ap g e) ∙ sym (map_more g xs i x h)

@@ -66,19 +66,19 @@ sum_split ends c off (f ∷ fs) a h =
     let k = times_cond (ltb off (ends f % c)) f.cost in
     omega arith
 
--- A sum of what does not depend on the release.
-pub sum_still : (g : FrameParams → ℕ) (a b : ℕ) (fs : List FrameParams) → sum_along (λ f o. g f) a fs ≡ sum_along (λ f o. g f) b fs
+-- What does not depend on the release has the same sum wherever the first release lies.
+pub sum_any_start : (g : FrameParams → ℕ) (a b : ℕ) (fs : List FrameParams) → sum_along (λ f o. g f) a fs ≡ sum_along (λ f o. g f) b fs
 unfolding sum_along
-sum_still g a b [] = refl
-sum_still g a b (f ∷ fs) = ap (λ n. g f + n) (sum_still g (a + f.gap) (b + f.gap) fs)
+sum_any_start g a b [] = refl
+sum_any_start g a b (f ∷ fs) = ap (λ n. g f + n) (sum_any_start g (a + f.gap) (b + f.gap) fs)
 
 sum_circle : (g : FrameParams → ℕ) (k : ℕ) (fs : List FrameParams) → sum_along (λ f o. g f) 0 (circle_from k fs) ≡ sum_along (λ f o. g f) 0 fs
 unfolding circle_from
 sum_circle g k fs =
     let a = sum_append (λ f o. g f) 0 (drop k fs) (take k fs) in
     let b = sum_append (λ f o. g f) 0 (take k fs) (drop k fs) in
-    let d = sum_still g (0 + cycle (drop k fs)) 0 (take k fs) in
-    let e = sum_still g (0 + cycle (take k fs)) 0 (drop k fs) in
+    let d = sum_any_start g (0 + cycle (drop k fs)) 0 (take k fs) in
+    let e = sum_any_start g (0 + cycle (take k fs)) 0 (drop k fs) in
     let w = ap (λ (l : List FrameParams). sum_along (λ f o. g f) 0 l) (take-append-drop k fs) in
     omega arith
 
@@ -90,6 +90,7 @@ sum_times q off (f ∷ fs) =
     let m = add-mul f.cost (sum_along (λ f o. f.cost) (off + f.gap) fs) q in
     omega arith
 
+-- What is added to each is added to the largest.
 largest_add : (g : ℕ → ℕ) (b n : ℕ) → b + largest_of g (suc n) ≡ largest_of (λ k. b + g k) (suc n)
 unfolding largest_of
 largest_add g b zero = omega arith
@@ -112,6 +113,7 @@ most_split ends c (f ∷ fs) a e =
         let t = sum_circle (λ f. f.cost * (ends f / c)) k (f ∷ fs) in
         omega arith
 
+-- What is due by t, each frame released before t + 1 less its deadline; and what is ready within s, each before s.
 pub due_split : (t c : ℕ) (fs : List FrameParams) → All FrameRanges fs → c ≡ cycle fs
     → sum_along (λ f o. f.cost * ((t + 1 - f.deadline) / c)) 0 fs + largest_of (λ k. within (λ f. (t + 1 - f.deadline) % c) 0 (circle_from k fs)) (length fs)
     ≡ (train_amounts fs).due t

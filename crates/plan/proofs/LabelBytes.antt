@@ -14,6 +14,7 @@ zeros_all (b ∷ bs) = ap (λ (r : Bool). b == 0 && r) (zeros_all bs)
 one_more : (n b : ℕ) (bs : List ℕ) → drop n bs ≡ drop (1 + n) (b ∷ bs)
 one_more n b bs = grind arith
 
+-- Printable bytes and then zeros: behind the printable bytes in front stand only zeros.
 padded : (bs : List ℕ) → padded_text bs ≡ all_zero (drop (prefix_len printable bs) bs)
 padded [] = refl
 padded (b ∷ bs) =
@@ -22,6 +23,7 @@ padded (b ∷ bs) =
       | false ↦ zeros_all (b ∷ bs)
     ]
 
+-- Of a label with a printable byte in front no more is asked.
 begun : (bs : List ℕ) → 0 < prefix_len printable bs → good_label bs ≡ padded_text bs
 begun [] h = absurd (omega arith)
 begun (b ∷ bs) h =

@@ -1,5 +1,5 @@
 pub mod LabelBytes
 pub mod Weigh
 pub mod Reach
-pub mod Keep
+pub mod PromiseHolds
 pub mod Turns

@@ -23,10 +23,12 @@ use Rattle.plan.specs.declared.call.Call.TheVariants.{Admit, Replace, Retire, Re
 use Rattle.plan.specs.Labels.{good_label}
 use Rattle.plan.specs.Ledger.{Ledger, plan, by_verdict, weighed, by_content, admitted, replaced, retired, if_ok, next, after}
 
--- What is granted: the label is good, and the changed plan passes the verdict.
+-- The label is good, and the verdict on the changed plan is yes.
 abbrev Passes : Meaning → Ledger → ℕ → Content → Unit {0} → Type 0
 Passes g l c k u = (good_label k.label ≡ true) × (weighed g l c k ≡ Ok u)
 
+-- The checks of admit, and then those of replace, over what they look at: where they grant, the label is good and the
+-- verdict grants.
 in_empty : (good above : Bool) (held : Option Content) (r : Result (Unit {0}) Refusal) (u : Unit {0})
     → cond good (cond above (Err NoChannel) (by_content held (λ _. Err ChannelFilled) r)) (Err BadLabel) ≡ Ok u → (good ≡ true) × (r ≡ Ok u)
 in_empty true false None r u q = (refl, q)
@@ -47,12 +49,13 @@ admitted_ok g l c k u q = in_empty (good_label k.label) (ltb 63 c) (get_or l c N
 replaced_ok : (g : Meaning) (l : Ledger) (c : ℕ) (k : Content) (u : Unit {0}) → replaced g l c k ≡ Ok u → Passes g l c k u
 replaced_ok g l c k u q = in_filled (good_label k.label) (ltb 63 c) (get_or l c None) (weighed g l c k) u q
 
--- What a granted call keeps: a channel filled with what passes, or emptied.
+-- P is kept by both changes that a call can make: a channel filled, with a good label and a yes, and a channel emptied.
 pub record Keeps (g : Meaning) (P : Ledger → Type 0) : Type 0 where
   pub fills : (l : Ledger) (c : ℕ) (e : Entry) (u : Unit {0}) → P l → good_label (content e).label ≡ true → weighed g l c (content e) ≡ Ok u → P (set l c (Some (content e)))
   pub empties : (l : Ledger) (c : ℕ) → P l → P (set l c None)
 
 module _ (g : Meaning) (P : Ledger → Type 0) (k : Keeps g P) where
+  -- P holds of what a call leaves, changed or not.
   either : (r : Result (Unit {0}) Refusal) (new old : Ledger) → ((u : Unit {0}) → r ≡ Ok u → P new) → P old → P (if_ok r new old)
   either (Ok u) new old f h = f u refl
   either (Err x) new old f h = h
@@ -65,7 +68,7 @@ module _ (g : Meaning) (P : Ledger → Type 0) (k : Keeps g P) where
   next_keeps l (Retire c) h = either (retired l c) (set l c None) l (λ u q. k.empties l c h) h
   next_keeps l (Read c) h = h
 
-  -- Every list of calls keeps it.
+  -- Every list of calls keeps P.
   pub after_keeps : (l : Ledger) (ks : List Call) → P l → P (after g l ks)
   after_keeps l [] h = h
   after_keeps l (call ∷ ks) h = after_keeps (next g l call) ks (next_keeps l call h)
@@ -100,6 +103,7 @@ set_blank (suc n) zero = refl
 set_blank (suc n) (suc c) = ap (λ (l : Ledger). None ∷ l) (set_blank n c)
 
 module _ (g : Meaning) (lg : Laws g) where
+  -- The plan with these channels is accepted.
   abbrev Fits : Ledger → Type 0
   Fits l = Accepted (plan g l).amounts
 
@@ -116,11 +120,11 @@ module _ (g : Meaning) (lg : Laws g) where
   retired_fits l c r h =
       accepted_lower (plan g (set l c None)).amounts (plan g l).amounts (plan_laws g lg (set l c None) (set_ranged l c None tt r)).rules (plan_laws g lg l r).rules (beside_lower (table (set l c None)) (table l) g (fewer l c)) h
 
-  abbrev Good : Ledger → Type 0
-  Good l = Ranged l × Fits l
+  abbrev RangedFits : Ledger → Type 0
+  RangedFits l = Ranged l × Fits l
 
-  good_keeps : Keeps g Good
-  good_keeps = record {
+  fits_keeps : Keeps g RangedFits
+  fits_keeps = record {
     fills = λ l c e u h p q. let r = (ranged_keeps g).fills l c e u h.0 p q in (r, weighed_fits l c (content e) u r q);
     empties = λ l c h. ((ranged_keeps g).empties l c h.0, retired_fits l c h.0 h.1);
   }
@@ -129,7 +133,7 @@ module _ (g : Meaning) (lg : Laws g) where
   pub after_fits : Accepted g.amounts → (ks : List Call) → Accepted (plan g (after g blank ks)).amounts
   after_fits h ks =
       let r = blank_ranged 64 in
-      (after_keeps g Good good_keeps blank ks (r, accepted_lower (plan g blank).amounts g.amounts (plan_laws g lg blank r).rules lg.rules (blank_lower g) h)).1
+      (after_keeps g RangedFits fits_keeps blank ks (r, accepted_lower (plan g blank).amounts g.amounts (plan_laws g lg blank r).rules lg.rules (blank_lower g) h)).1
 
   -- Over any guest, the plan is accepted or has no task.
   abbrev Stands : Ledger → Type 0

@@ -10,7 +10,7 @@ use Rattle.loads.specs.Channels.{blank}
 use Rattle.plan.specs.declared.call.Done.{Done}
 use Rattle.plan.specs.Ledger.{Ledger, plan, Reply, reply, answer_to, next, after, answers_to}
 use Rattle.plan.specs.Promise.{Kept}
-use Rattle.plan.proofs.Keep.{promise}
+use Rattle.plan.proofs.PromiseHolds.{promise}
 
 -- What the code answers to a call.
 abbrev Answer : Type 0
@@ -24,7 +24,8 @@ answers_more : (g : Meaning) (l : Ledger) (xs : List Call) (k : Call) → answer
 answers_more g l [] k = refl
 answers_more g l (x ∷ xs) k = ap (λ r. answer_to g l x ∷ r) (answers_more g (next g l x) xs k)
 
--- After n of the calls: what the channels are, what is answered, and what is untouched.
+-- After n of the calls `cs`, begun with the channels `start` and the places `old`: the channels `l` are the ledger's,
+-- the first n of the places `rs` hold the ledger's answers, and the later ones what they held.
 pub record SoFar (g : Meaning) (start : Ledger) (cs : List Call) (old : List Answer) (n : ℕ) (l : Ledger) (rs : List Answer) : Type 0 where
   pub stands : l ≡ after g start (take n cs)
   pub answered : map reply (take n rs) ≡ answers_to g start (take n cs)
@@ -33,6 +34,7 @@ pub record SoFar (g : Meaning) (start : Ledger) (cs : List Call) (old : List Ans
 pub at_start : (g : Meaning) (start : Ledger) (cs : List Call) (old : List Answer) → SoFar g start cs old 0 start old
 at_start g start cs old = record { stands = refl; answered = refl; untouched = refl }
 
+-- One call more: `k` is the next of the calls, and the code answers `a` and leaves the channels `l'`.
 module _ (g : Meaning) (start : Ledger) (cs : List Call) (old rs : List Answer) (n : ℕ) (l l' : Ledger) (k : Call) (a : Answer)
     (so : SoFar g start cs old n l rs) (in-calls : n < length cs) (in-places : n < length rs) (call : k ≡ get_or cs n k)
     (says : reply a ≡ answer_to g l k) (slots : l' ≡ next g l k) where
@@ -61,7 +63,7 @@ module _ (g : Meaning) (start : Ledger) (cs : List Call) (old rs : List Answer) 
   pub turn : SoFar g start cs old (n + 1) l' (set rs n a)
   turn = record { stands = turn_stands; answered = turn_answered; untouched = turn_untouched }
 
--- After any calls, with the answers that the ledger gives.
+-- Channels that are the ledger's after the calls `before` and then `ks` keep the promise, with the ledger's answers.
 pub kept_more : (g : Meaning) → Laws g → (before ks : List Call) (l : Ledger) → l ≡ after g (after g blank before) ks → Kept g before ks (answers_to g (after g blank before) ks) l
 kept_more g h before ks l e =
     let s : l ≡ after g blank (before ++ ks) = e ∙ sym (after_join g blank before ks) in
@@ -72,7 +74,7 @@ kept_more g h before ks l e =
       never_late = λ a. subst (λ (x : Ledger). NeverLate (plan g x)) (sym s) ((promise g h).never_late a (before ++ ks));
     }
 
--- After n of the calls, from where earlier calls have led.
+-- What holds after n calls keeps the promise, where earlier calls have led to `start`.
 pub kept : (g : Meaning) → Laws g → (start : Ledger) (cs : List Call) (old : List Answer) (n : ℕ) (l : Ledger) (rs : List Answer) → SoFar g start cs old n l rs
     → (before : List Call) → start ≡ after g blank before → Kept g before (take n cs) (map reply (take n rs)) l
 kept g h start cs old n l rs so before e =

@@ -10,18 +10,22 @@ use Rattle.loads.specs.declared.refusal.Refusal.{Refusal}
 use Rattle.loads.specs.Channels.{Content, Channels, put_at}
 use Rattle.plan.specs.Ledger.{Ledger, plan, by_verdict, weighed}
 
--- Within 64 channels, putting is granted, and what is put stands there.
+-- What putting gives: an answer, and the channels after it.
 abbrev Put : Type 0
 Put = Result (Unit {0}) Refusal × Channels
 
+-- In a channel of at most 63, what is put stands.
 put_stands : (l s : Ledger) (c : ℕ) (h : Option Content) (r : Result (Unit {0}) Refusal) → c ≤ 63 → ◌≡◌ {A = Put} (r, s) (put_at l c h) → s ≡ set l c h
 put_stands l s c h r b e = let t : ltb 63 c ≡ false = le-ltb 63 c b in ap (λ (p : Put). p.1) (rw t at e)
 
+-- The channels are `l` before something is put into channel c, and `s` after.
 module _ (l s : Ledger) (c : ℕ) (b : c ≤ 63) where
+  -- The walk's verdict on the channels `s` is the ledger's on the change.
   pub judged : (g : Meaning) (k : Content) (p : Result (Unit {0}) Refusal) (r : Result ℕ Unfit) → ◌≡◌ {A = Put} (p, s) (put_at l c (Some k)) → Laws (plan g s)
       → r ≡ walk (plan g s).amounts → by_verdict r ≡ weighed g l c k
   judged g k p r e h v = ap by_verdict (v ∙ walk_is_look (plan g s).amounts h.rules ∙ ap (λ (x : Ledger). look (plan g x).amounts) (put_stands l s c (Some k) p b e))
 
+  -- Putting back what channel c held before gives `l` again.
   pub restored : (t : Ledger) (x old : Option Content) (p q : Result (Unit {0}) Refusal) → ◌≡◌ {A = Put} (p, s) (put_at l c x) → old ≡ get_or l c None
       → ◌≡◌ {A = Put} (q, t) (put_at s c old) → t ≡ l
   restored t x old p q e o f =

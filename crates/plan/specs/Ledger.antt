@@ -71,41 +71,42 @@ retired l c = at_channel l c (λ old. Ok tt) (Err ChannelEmpty)
 abbrev pub reading : Ledger → ℕ → Result Content Refusal
 reading l c = at_channel l c (λ k. Ok k) (Err ChannelEmpty)
 
--- A call's answer, by plain numbers.
+-- A call's answer, by plain numbers: `granted` of admit and replace, `vacated` of retire, `found` of a reading, with
+-- what the channel holds, and `refused` of any call.
 pub data Reply : Type 0 where
   granted : Reply
   vacated : Reply
   found : Content → Reply
   refused : Refusal → Reply
 
--- The code's answer, by plain numbers.
+-- The code's answer as such a reply.
 abbrev pub reply : Result Done Refusal → Reply
 reply (Ok done.Granted) = granted
 reply (Ok done.Retired) = vacated
 reply (Ok (done.Found e)) = found (content e)
 reply (Err r) = refused r
 
--- The reply to a call that gives nothing but leave: `good` where it is granted.
-abbrev pub told : Reply → Result (Unit {0}) Refusal → Reply
-told good (Ok u) = good
-told good (Err r) = refused r
+-- The reply to a call that hands nothing back: `good` where it is not refused.
+abbrev pub done_or_refused : Reply → Result (Unit {0}) Refusal → Reply
+done_or_refused good (Ok u) = good
+done_or_refused good (Err r) = refused r
 
 -- The reply to a reading.
-abbrev pub shown : Result Content Refusal → Reply
-shown (Ok k) = found k
-shown (Err r) = refused r
+abbrev pub found_or_refused : Result Content Refusal → Reply
+found_or_refused (Ok k) = found k
+found_or_refused (Err r) = refused r
 
--- The label and task that reading gives, by plain numbers.
+-- The label and task that the code's reading gives, by plain numbers.
 abbrev pub read_entry : Result Entry Refusal → Result Content Refusal
 read_entry (Ok e) = Ok (content e)
 read_entry (Err r) = Err r
 
 -- What the ledger answers to a call.
 abbrev pub answer_to : Meaning → Ledger → Call → Reply
-answer_to g l (Admit c e) = told granted (admitted g l c (content e))
-answer_to g l (Replace c e) = told granted (replaced g l c (content e))
-answer_to g l (Retire c) = told vacated (retired l c)
-answer_to g l (Read c) = shown (reading l c)
+answer_to g l (Admit c e) = done_or_refused granted (admitted g l c (content e))
+answer_to g l (Replace c e) = done_or_refused granted (replaced g l c (content e))
+answer_to g l (Retire c) = done_or_refused vacated (retired l c)
+answer_to g l (Read c) = found_or_refused (reading l c)
 
 -- `new` where the call is granted, `old` where it is refused.
 abbrev pub if_ok : Result (Unit {0}) Refusal → Ledger → Ledger → Ledger
@@ -119,11 +120,12 @@ next g l (Replace c e) = if_ok (replaced g l c (content e)) (slice_set l c (Some
 next g l (Retire c) = if_ok (retired l c) (slice_set l c None) l
 next g l (Read c) = l
 
--- The ledger after a list of calls, and the answers to them.
+-- The ledger after a list of calls.
 abbrev pub after : Meaning → Ledger → List Call → Ledger
 after g l [] = l
 after g l (k ∷ ks) = after g (next g l k) ks
 
+-- What the ledger answers to a list of calls, one after another.
 abbrev pub answers_to : Meaning → Ledger → List Call → List Reply
 answers_to g l [] = []
 answers_to g l (k ∷ ks) = answer_to g l k ∷ answers_to g (next g l k) ks

@@ -18,15 +18,16 @@ Closes m = (w : ℕ) × (busy m ≡ Some w)
 abbrev pub SomeClaimExceeds : Amounts → Type 0
 SomeClaimExceeds m = (t : ℕ) × (t < claim m t)
 
--- The call is admit or replace, and neither its label nor its channel is refused: the channel is empty for
--- admit, filled for replace.
-abbrev pub Takes : Ledger → Call → Type 0
-Takes l (Admit c e) = (good_label (content e).label ≡ true) × (c ≤ 63) × (slice_index_or l c None ≡ None)
-Takes l (Replace c e) = (good_label (content e).label ≡ true) × (c ≤ 63) × ((k : Content) × (slice_index_or l c None ≡ Some k))
-Takes l (Retire c) = ⊥
-Takes l (Read c) = ⊥
+-- The verdict decides the call: it is admit or replace, and neither its label nor its channel is refused. The
+-- channel is empty for admit, filled for replace.
+abbrev pub ReachesVerdict : Ledger → Call → Type 0
+ReachesVerdict l (Admit c e) = (good_label (content e).label ≡ true) × (c ≤ 63) × (slice_index_or l c None ≡ None)
+ReachesVerdict l (Replace c e) = (good_label (content e).label ≡ true) × (c ≤ 63) × ((k : Content) × (slice_index_or l c None ≡ Some k))
+ReachesVerdict l (Retire c) = ⊥
+ReachesVerdict l (Read c) = ⊥
 
--- The amounts of the changed plan: the ledger's tasks, with the call's task in its channel, beside the guest.
+-- The amounts of the changed plan: the ledger's tasks, with the call's task in its channel, beside the guest. For
+-- retire and read, which never reach the verdict, it is the plan as it stands.
 abbrev pub changed : Meaning → Ledger → Call → Amounts
 changed g l (Admit c e) = (plan g (slice_set l c (Some (content e)))).amounts
 changed g l (Replace c e) = (plan g (slice_set l c (Some (content e)))).amounts
@@ -45,7 +46,7 @@ pub record Promise (g : Meaning) : Type 0 where
   -- judge's and audit's verdicts are one, for every load, and what they say
   pub verdicts : OneVerdict
   -- what admit and replace say, at every ledger that calls can reach
-  pub exact : (earlier : List Call) (k : Call) → Takes (after g blank earlier) k → Exact g (after g blank earlier) k
+  pub exact : (earlier : List Call) (k : Call) → ReachesVerdict (after g blank earlier) k → Exact g (after g blank earlier) k
   -- over an accepted guest no permitted job is ever late, after every list of calls, the empty one too
   pub never_late : Accepted g.amounts → (ks : List Call) → NeverLate (plan g (after g blank ks))
 

@@ -13,6 +13,7 @@ first_miss : (f : ℕ → ℕ) (n w : ℕ) → (f w ≡ w → ⊥) → first_fix
 unfolding first_fixed
 first_miss f n w e = rw (ne_eqb (f w) w e, first_fixed)
 
+-- The search finds the first fixed point of the n ticks from w on, or none where there is none.
 pub first_at : (f : ℕ → ℕ) (n w x : ℕ) → w ≤ x → x < w + n → f x ≡ x → ((v : ℕ) → w ≤ v → v < x → f v ≡ v → ⊥) → first_fixed f n w ≡ Some x
 first_at f zero w x a b e none = absurd (omega arith)
 first_at f (suc n) w x a b e none = elim (cases_Bool (eqb w x)) [
@@ -29,6 +30,7 @@ first_none f zero w none = refl
 first_none f (suc n) w none =
     first_miss f n w (λ d. none w (omega arith) (omega arith) d) ∙ first_none f n (w + 1) (λ v a b. none v (omega arith) (omega arith))
 
+-- What a search that finds x says: x is the first fixed point of these ticks.
 abbrev First : (ℕ → ℕ) → ℕ → ℕ → Option ℕ → Type 0
 First f n w None = Unit {0}
 First f n w (Some x) = (w ≤ x) × (x < w + n) × (f x ≡ x) × ((v : ℕ) → w ≤ v → v < x → f v ≡ v → ⊥)
@@ -47,7 +49,7 @@ unfolding first_fixed
 first_says f zero w = tt
 first_says f (suc n) w = first_step f n w (eqb (f w) w) refl (first_says f n (w + 1))
 
--- busy
+-- The busy period, by the search from 1 on.
 
 pub busy_idle : (m : Amounts) → m.ready 1 ≡ 0 → busy m ≡ Some 0
 unfolding busy

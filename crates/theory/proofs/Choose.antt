@@ -6,6 +6,7 @@ use Rattle.theory.specs.Jobs.{Job, job, work}
 use Rattle.theory.specs.Dispatch.{first, earliest, is_inside, is_waiting, pick}
 use Rattle.theory.proofs.Pieces.{inside_work}
 
+-- What holds below n and at n holds below n + 1.
 pub upto : (P : ℕ → Type 0) (n : ℕ) → ((k : ℕ) → k < n → P k) → P n → (k : ℕ) → k < suc n → P k
 upto P n f p k h = go (cases_eq n k)
   where
@@ -13,6 +14,7 @@ upto P n f p k h = go (cases_eq n k)
     go (inl e) = subst P e p
     go (inr d) = f k (omega arith)
 
+-- What `first` says of the places below n: none passes the test, or place i does.
 abbrev pub Firsts : (ℕ → Bool) → ℕ → Option ℕ → Type 0
 Firsts test n none = (k : ℕ) → k < n → test k ≡ false
 Firsts test n (some i) = (i < n) × (test i ≡ true)
@@ -26,6 +28,7 @@ first_is test (suc n) = go (first test n) (test n) refl (first_is test n)
     go none true e ih = (omega arith, e)
     go none false e ih = upto (λ k. test k ≡ false) n ih e
 
+-- What `earliest` says of them: none passes the test, or place i does and has the least key of those that do.
 abbrev Earliests : (ℕ → Bool) → (ℕ → ℕ) → ℕ → Option ℕ → Type 0
 Earliests test key n none = (k : ℕ) → k < n → test k ≡ false
 Earliests test key n (some i) = (i < n) × (test i ≡ true) × ((k : ℕ) → k < n → test k ≡ true → key i ≤ key k)
@@ -52,10 +55,12 @@ earliest_is test key (suc n) = go (earliest test key n) (test n) refl (earliest_
     go none true e ih = (omega arith, e, upto (λ k. test k ≡ true → key n ≤ key k) n (λ k b t. absurd (both_ways (test k) (ih k b) t)) (λ t. omega arith))
     go none false e ih = upto (λ k. test k ≡ false) n ih e
 
--- What a pick in tick t says, with `ss` served so far.
+-- Job k is released by tick t and unfinished, with `ss` served so far.
 abbrev pub Waits : ℕ → List Job → List ℕ → ℕ → Type 0
 Waits t js ss k = ((job js k).release ≤ t) × (get_or ss k 0 < work (job js k))
 
+-- What a pick in tick t says: no job is inside a piece and none waits; or job i is unfinished, and inside a piece, or
+-- released while no job is inside a piece and no job that waits has an earlier deadline.
 abbrev pub Picks : ℕ → List Job → List ℕ → Option ℕ → Type 0
 Picks t js ss none = ((k : ℕ) → k < length js → is_inside js ss k ≡ false) × ((k : ℕ) → k < length js → Waits t js ss k → ⊥)
 Picks t js ss (some i) = (i < length js) × (get_or ss i 0 < work (job js i))

@@ -17,6 +17,7 @@ given_zero u e (j ∷ js) (s ∷ ss) h = go (falls_in u e j) refl (given_zero u 
     go true f ih = let g : s ≡ 0 = h 0 f in omega arith
     go false f ih = omega arith
 
+-- Ticks served to another job do not count, and one tick served to such a job counts.
 pub given_same : (u e : ℕ) (js : List Job) (ss : List ℕ) (i x : ℕ) → falls_in u e (job js i) ≡ false → given u e js (set ss i x) ≡ given u e js ss
 unfolding given
 given_same u e [] ss i x h = refl
@@ -39,6 +40,7 @@ given_more u e (j ∷ js) (s ∷ ss) zero l q h = go (falls_in u e j) h
 given_more u e (j ∷ js) (s ∷ ss) (suc i) l q h =
     let ih = given_more u e js ss i (omega arith) (omega arith) h in omega arith
 
+-- It is at most the work of these jobs, and less where one of them is unfinished.
 pub given_le : (u e : ℕ) (js : List Job) (ss : List ℕ) → ((i : ℕ) → get_or ss i 0 ≤ work (job js i)) → given u e js ss ≤ work_in u e js
 unfolding given
 given_le u e [] ss h = omega arith

@@ -35,7 +35,7 @@ look_skip m s (suc t) h still = elim (cases_Bool (eqb s (suc t))) [
       look_miss m t (still t (omega arith) (omega arith)) ∙ look_skip m s t (omega arith) (λ u a b. still u a (omega arith)))
 ]
 
--- From the last mark below t on.
+-- What the look finds at s and below; nothing where there is no s.
 abbrev pub onward : Amounts → Option ℕ → Option (ℕ × ℕ)
 onward m None = None
 onward m (Some s) = look_below m (suc s)
@@ -48,7 +48,7 @@ onward_last m t (Some s) h = look_skip m (suc s) t h.0 (λ u a b. no_mark m u (h
 pub look_last : (m : Amounts) (t : ℕ) → look_below m t ≡ onward m (last_mark m.mark t)
 look_last m t = onward_last m t (last_mark m.mark t) (last_says m.mark t)
 
--- The three ways of a step.
+-- The ways of a step: t is an exceeded mark, its claim does not exceed it, it is no mark, or its claim is below it.
 pub look_late : (m : Amounts) (t : ℕ) → m.mark t ≡ true → t < claim m t → look_below m (suc t) ≡ Some (t, claim m t)
 look_late m t k h = look_hit m t (exceeds m t k h)
 

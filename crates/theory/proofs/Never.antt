@@ -24,8 +24,8 @@ record Blocks (js : List Job) (d u b : ℕ) : Type 0 where
   longer : b < z
   two : 2 ≤ z
 
--- Every job due by d and released before u is finished. Since u, b ticks have gone to one piece begun before u, and the
--- others to the jobs released at u or later and due by d.
+-- The ticks from u up to x, none of which was idle. Every job due by d and released before u is finished. Since u, b
+-- ticks have gone to one piece begun before u, and the others to the jobs released at u or later and due by d.
 record Busy (js : List Job) (d x : ℕ) : Type 0 where
   u : ℕ
   b : ℕ
@@ -35,9 +35,11 @@ record Busy (js : List Job) (d x : ℕ) : Type 0 where
   held : (k : ℕ) → d < (job js k).deadline → is_inside js (served js x) k ≡ true
       → ((job js k).release < u) × (b < spent (job js k).pieces (ticks js x k))
 
+-- At tick x, every job due by d and released before x is finished.
 abbrev Clear : List Job → ℕ → ℕ → Type 0
 Clear js d x = (i : ℕ) → (job js i).deadline ≤ d → (job js i).release < x → work (job js i) ≤ ticks js x i
 
+-- At tick x, job i is due by d, released before x and not finished.
 record Open (js : List Job) (d x : ℕ) : Type 0 where
   i : ℕ
   there : i < length js
@@ -68,6 +70,7 @@ clear_or_open js d x = go (first test (length js)) (first_is test (length js))
         let q = and_parts _ _ p.1 in
         inr (record { i = i; there = f.0; soon = leb-true _ _ p.0; before = ltb-true _ _ q.0; unfinished = ltb-true _ _ q.1 })
 
+-- Where all are finished, u is x.
 fresh : (js : List Job) (d x : ℕ) → Clear js d x → Busy js d x
 fresh js d x c = record {
   u = x;
@@ -158,6 +161,7 @@ theirs js d x i B e s f = record {
     on : (k : ℕ) → i ≡ k → is_inside js (served js (suc x)) k ≡ true → ((job js k).release < B.u) × (B.b + 1 < spent (job js k).pieces (ticks js (suc x) k))
     on k r = subst (λ (n : ℕ). is_inside js (served js (suc x)) n ≡ true → ((job js n).release < B.u) × (B.b + 1 < spent (job js n).pieces (ticks js (suc x) n))) r here
 
+-- One tick more: u moves on to it where all are finished, and else the tick went to a job due by d or to that piece.
 step : (js : List Job) (d x : ℕ) → Busy js d x → Busy js d (suc x)
 step js d x B = go (clear_or_open js d (suc x))
   where

@@ -9,9 +9,11 @@ use Rattle.theory.specs.Dispatch.{inside, is_inside, pick, serve, served}
 use Rattle.theory.proofs.Pieces.{inside_zero}
 use Rattle.theory.proofs.Choose.{Picks, pick_is}
 
+-- the ticks served to job i after t ticks
 abbrev pub ticks : List Job → ℕ → ℕ → ℕ
 ticks js t i = get_or (served js t) i 0
 
+-- the job that runs in tick t
 abbrev pub picked : List Job → ℕ → Option ℕ
 picked js t = pick t js (served js t)
 
@@ -115,6 +117,7 @@ started js (suc t) k h = go (moves js t k) (started js t k)
 abbrev Once : List Job → ℕ → Type 0
 Once js t = (i k : ℕ) → is_inside js (served js t) i ≡ true → is_inside js (served js t) k ≡ true → i ≡ k
 
+-- so a job inside a piece after tick t is the one that ran in it
 only_from : (js : List Job) (t k : ℕ) → Once js t → is_inside js (served js (suc t)) k ≡ true → picked js t ≡ some k
 only_from js t k once e = go (moves js t k)
   where

@@ -1,3 +1,4 @@
+-- The claim from the answers to due and held, none of which is cut.
 use Rattle.judge.proofs.Questions.{claim_nothing, claim_something}
 use Rattle.judge.proofs.claims.claim_at.Goals as goal
 

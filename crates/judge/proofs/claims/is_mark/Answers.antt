@@ -1,3 +1,4 @@
+-- A tick is a mark exactly where it is the last mark below the next tick.
 use Rattle.std.proofs.Common.{◌∙◌}
 use Rattle.judge.proofs.Questions.{mark_is_last}
 use Rattle.judge.proofs.claims.is_mark.Goals as goal

@@ -1,5 +1,5 @@
 -- The loop of the audit is the look, from the last tick below the busy period downwards.
-use Rattle.std.proofs.Common.{◌-◌, Some, None, sym, refl, ◌∙◌, arith, rules}
+use Rattle.std.proofs.Common.{◌-◌, None, sym, refl, ◌∙◌, arith, rules}
 use Rattle.theory.proofs.Verdicts.{look_open}
 use Rattle.judge.proofs.Steps.{short, uncut, look_over, look_ended, look_worse, look_same, look_unmarked}
 use Rattle.judge.proofs.look.audit.Goals as goal

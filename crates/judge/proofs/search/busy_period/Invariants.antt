@@ -7,5 +7,6 @@ invariant-loop-w g l =
     (1 ≤ l.w) × (l.w ≤ 100000000) × (l.w ≤ (g.L.Load.meaning l.load).amounts.ready l.w)
     × ((v : ℕ) → 1 ≤ v → v < l.w → (g.L.Load.meaning l.load).amounts.ready v ≡ v → ⊥)
 
+-- Each turn goes up, to 100,000,000 at most.
 abbrev pub decreases-loop-w : goal.decreases-loop-w
 decreases-loop-w g l = 100000000 - l.w

@@ -1,3 +1,4 @@
+-- The theorems over amounts, for those of this load.
 use Rattle.theory.proofs.Walk.{walk_is_look}
 use Rattle.theory.proofs.Verdicts.{yes_exactly}
 use Rattle.judge.proofs.theorems.verdicts_agree.Goals as goal

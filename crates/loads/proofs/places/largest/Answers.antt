@@ -1,3 +1,4 @@
+-- The loop over the places takes in the task of each, if there is one, and at the end none is ahead.
 use Rattle.std.proofs.Common.{min, ap, ◌∙◌, rules}
 use Rattle.loads.proofs.PlaceLoops.{skip, largest_turn, largest_end}
 use Rattle.loads.proofs.places.largest.Goals as goal

@@ -1,3 +1,4 @@
+-- The loop over the places takes in the task of each, if there is one, and at the end none is ahead.
 use Rattle.std.proofs.Common.{rules}
 use Rattle.loads.proofs.PlaceLoops.{skip, last_turn, last_end}
 use Rattle.loads.proofs.places.latest.Goals as goal

@@ -1,3 +1,4 @@
+-- The loop over the places adds the task of each, if there is one, and at the end none is ahead.
 use Rattle.std.proofs.Common.{arith, rules}
 use Rattle.loads.proofs.PlaceLoops.{skip, total_turn, total_end}
 use Rattle.loads.proofs.places.total.Goals as goal

@@ -1,3 +1,4 @@
+-- Each clause is a theorem over lists of tasks.
 use Rattle.loads.specs.TaskList.{tasks_laws, none_same, more_same, marks_are}
 use Rattle.loads.proofs.theorems.tasks_are_lawful.Goals as goal
 

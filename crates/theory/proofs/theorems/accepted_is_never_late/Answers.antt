@@ -1,3 +1,4 @@
+-- Of an accepted load no claim exceeds its tick, and so no job is late.
 use Rattle.theory.proofs.Never.{never_late}
 use Rattle.theory.proofs.theorems.accepted_is_never_late.Goals as goal
 

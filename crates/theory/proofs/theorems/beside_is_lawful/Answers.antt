@@ -1,3 +1,4 @@
+-- The laws of two loads side by side, and that each is accepted where both together are.
 use Rattle.theory.proofs.BesideLaws.{beside_laws, parts_accepted}
 use Rattle.theory.proofs.theorems.beside_is_lawful.Goals as goal
 

@@ -1,3 +1,4 @@
+-- No mark is below t where t is at most D − J, and else the last one is t - 1 less a remainder.
 use Rattle.std.proofs.Common.{◌≡◌, ◌-◌, ◌%◌, Some, sym, ◌∙◌, arith}
 use Rattle.loads.specs.Making.{task_params}
 use Rattle.loads.specs.Ranged.{task_ranged}

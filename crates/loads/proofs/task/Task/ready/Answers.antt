@@ -1,3 +1,4 @@
+-- The library's quotient rounded up is that of the definition.
 use Rattle.std.specs.Int.{div_ceil}
 use Rattle.std.proofs.Common.{◌+◌, ◌*◌, sym, ◌∙◌, arith}
 use Rattle.loads.specs.Making.{task_params}

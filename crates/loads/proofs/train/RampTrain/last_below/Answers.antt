@@ -1,3 +1,4 @@
+-- The places written hold each frame with its rest, and so the last mark over them is that of the train.
 use Rattle.std.proofs.Common.{◌≡◌, ◌-◌, ◌%◌, map, length, sym, ap, ap₂, ◌∙◌, arith, rules}
 use Rattle.theory.specs.Meaning.{last_mark}
 use Rattle.loads.specs.Train.{cycle, circle_from, any_of, mark_from, train_amounts}

@@ -1,3 +1,4 @@
+-- The work of whole rounds and the largest within the rests are what is due.
 use Rattle.std.proofs.Common.{◌≡◌, ◌+◌, ◌-◌, ◌*◌, ◌/◌, ◌%◌, map, length, sym, ap, ap₂, ◌∙◌, arith, rules, take_all}
 use Rattle.std.specs.List.{sum_by}
 use Rattle.std.proofs.lemmas.Grind.{common_steps}
@@ -5,7 +6,7 @@ use Rattle.loads.specs.Making.{frame_params}
 use Rattle.loads.specs.Train.{cycle, train_amounts}
 use Rattle.loads.specs.TrainRanges.{all_ranged}
 use Rattle.loads.proofs.TrainWithin.{due_split}
-use Rattle.loads.proofs.TrainSums.{with_rest, still_sum, most_rests, written_more, written_all}
+use Rattle.loads.proofs.TrainSums.{with_rest, sum_by_frame, most_rests, written_more, written_all}
 use Rattle.loads.proofs.train.RampTrain.most_due.Goals as goal
 
 pub loop-i-preserved : goal.loop-i-preserved
@@ -29,7 +30,7 @@ returns c =
     let e = c.frames-frames.ensures.same in
     let i : c.loop-i.i ≡ length fs = omega arith in
     let w = ap (sum_by (λ f. f.cost * ((c.count-t.result + 1 - f.deadline) / round))) (take_all c.loop-i.i fs (omega arith)) in
-    let s = still_sum (λ f. f.cost * ((c.count-t.result + 1 - f.deadline) / round)) fs in
+    let s = sum_by_frame (λ f. f.cost * ((c.count-t.result + 1 - f.deadline) / round)) fs in
     let m = most_rests (λ f. (c.count-t.result + 1 - f.deadline) % round) fs _ (written_all _ fs c.loop-i.rests c.loop-i.i i c.loop-i.invariant.rests) in
     let d = due_split c.count-t.result round (map frame_params fs) (all_ranged fs) (c.round-round.ensures.same ∙ ap cycle (sym e)) in
     omega (arith, ap₂ (λ ps n. (train_amounts ps).due n) e c.count-t.ensures)

@@ -1,3 +1,4 @@
+-- The work of whole rounds and the largest within the rest are what is ready; without frames it is nothing.
 use Rattle.std.proofs.Common.{◌≡◌, ◌*◌, ◌/◌, ◌%◌, map, length, sym, ap, ap₂, ◌∙◌, arith, rules}
 use Rattle.std.proofs.lemmas.Bool.{eqb-true}
 use Rattle.loads.specs.Making.{frame_params}

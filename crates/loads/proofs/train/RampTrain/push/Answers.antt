@@ -1,3 +1,4 @@
+-- One gap and one cost more fit in a u64.
 use Rattle.std.proofs.Common.{arith}
 use Rattle.loads.proofs.TrainSums.{few_gaps, few_costs}
 use Rattle.loads.proofs.train.RampTrain.push.Goals as goal

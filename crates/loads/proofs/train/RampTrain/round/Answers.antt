@@ -1,3 +1,4 @@
+-- The gaps of at most sixteen frames.
 use Rattle.std.proofs.Common.{arith}
 use Rattle.loads.proofs.TrainSums.{few_gaps}
 use Rattle.loads.proofs.train.RampTrain.round.Goals as goal

@@ -1,3 +1,4 @@
+-- The costs of at most sixteen frames.
 use Rattle.std.proofs.Common.{arith}
 use Rattle.loads.proofs.TrainSums.{few_costs}
 use Rattle.loads.proofs.train.RampTrain.work.Goals as goal

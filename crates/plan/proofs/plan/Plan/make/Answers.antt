@@ -1,3 +1,4 @@
+-- A plan just made keeps the promise, for no calls at all.
 use Rattle.std.proofs.Common.{[]}
 use Rattle.plan.proofs.Turns.{kept_more}
 use Rattle.plan.proofs.plan.Plan.make.Goals as goal

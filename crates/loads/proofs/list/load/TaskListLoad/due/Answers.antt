@@ -1,3 +1,4 @@
+-- The sum over the tasks of the list is its due, cut at 2^40.
 use Rattle.std.proofs.Common.{min, ◌∙◌, rules}
 use Rattle.loads.specs.Tasks.{tasks_meaning, tasks_amounts, total, task_due}
 use Rattle.loads.proofs.PlaceLoops.{tasks_stand}

@@ -1,3 +1,4 @@
+-- The latest over the tasks of the list is its last mark.
 use Rattle.std.proofs.Common.{◌∙◌, rules}
 use Rattle.loads.specs.Tasks.{tasks_meaning, tasks_amounts}
 use Rattle.loads.proofs.PlaceLoops.{last_of, tasks_stand}

@@ -1,3 +1,4 @@
+-- The largest over the tasks of the table is its held, cut at 2^40.
 use Rattle.std.proofs.Common.{min, ◌∙◌, rules}
 use Rattle.loads.specs.Tasks.{tasks_meaning, tasks_amounts, largest, task_held}
 use Rattle.loads.proofs.PlaceLoops.{slots_stand}

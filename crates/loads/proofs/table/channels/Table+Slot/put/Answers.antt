@@ -1,3 +1,4 @@
+-- The slot that is lent and changed is the channel that is put.
 use Rattle.std.proofs.Common.{arith}
 use Rattle.loads.proofs.ChannelViews.{changed}
 use Rattle.loads.proofs.table.channels.Table+Slot.put.Goals as goal

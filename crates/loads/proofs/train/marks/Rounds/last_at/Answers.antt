@@ -1,3 +1,4 @@
+-- The circle begun at k is a run of the frames from k on, and after it one of those before k.
 use Rattle.std.proofs.Common.{◌+◌, map, take, drop, sym, ap, ap₂, ◌∙◌, arith}
 use Rattle.theory.specs.Meaning.{last_mark, later}
 use Rattle.loads.specs.Train.{circle_from, mark_from}

@@ -1,3 +1,4 @@
+-- The frame's last deadline below t: none yet, or by whether `off` is within the rest.
 use Rattle.std.proofs.Common.{arith}
 use Rattle.loads.proofs.TrainMarks.{last_hit_none, last_early, last_late}
 use Rattle.loads.proofs.train.marks.Rounds.last_hit.Goals as goal

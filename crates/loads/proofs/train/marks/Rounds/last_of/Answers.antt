@@ -1,3 +1,4 @@
+-- The loop over the frames takes in the last deadline of each, and at the end none is left.
 use Rattle.std.proofs.Common.{sym, ◌∙◌, arith}
 use Rattle.std.proofs.lemmas.Grind.{common_steps}
 use Rattle.loads.proofs.TrainMarks.{last_next, last_end}

@@ -1,4 +1,5 @@
-use Rattle.std.proofs.Common.{map, length, ◌∙◌, arith, rules, tests}
+-- The fold over all beginnings of the circle gives the last mark of any of them.
+use Rattle.std.proofs.Common.{map, length, None, ◌∙◌, arith, rules, tests}
 use Rattle.std.proofs.lemmas.Iterator.{YieldsList-from_map, YieldsList-from_range}
 use Rattle.std.proofs.lemmas.Iterator.Consumers.{fold_from_yields_List}
 use Rattle.theory.specs.Meaning.{last_mark, later}
@@ -6,7 +7,6 @@ use Rattle.loads.specs.Train.{circle_from, mark_from}
 use Rattle.loads.specs.TrainRests.{params}
 use Rattle.loads.proofs.TrainMarks.{last_fold}
 use Rattle.loads.proofs.train.marks.Rounds.last_over.Goals as goal
-use Rattle.std.proofs.Common.{None}
 
 pub returns : goal.returns
 returns c =

@@ -1,3 +1,4 @@
+-- The fold over all beginnings of the circle gives the largest cost of any of them.
 use Rattle.std.proofs.Common.{◌≡◌, max, map, length, ◌∙◌, arith, rules, tests}
 use Rattle.std.specs.List.{fold, range_with_len}
 use Rattle.std.proofs.lemmas.Iterator.{YieldsList-from_map, YieldsList-from_range}

@@ -2,6 +2,7 @@ use Rattle.std.proofs.Common.{◌≡◌, ◌+◌, ◌*◌, ◌≤◌, drop}
 use Rattle.loads.specs.TrainRests.{gaps, cost_within}
 use Rattle.loads.proofs.train.within.Run.within_of.Given as goal
 
+-- Each frame so far has added at most 10,000,000 to either sum, and what the frames ahead add makes the whole.
 abbrev pub invariant-loop-f : goal.invariant-loop-f
 invariant-loop-f l = record {
   off_most : l.off ≤ l.start + 10000000 * l.f-index;

@@ -11,3 +11,4 @@ pub mod Choose
 pub mod Run
 pub mod Given
 pub mod Never
+pub mod RowPlaces

@@ -36,3 +36,7 @@ module _ (m : Amounts) (l : Rules m) (w next : ℕ) (inv : Searched m w) (e : ne
         omega (arith, l.ready_mono w next (omega arith)),
         λ v a b f. elim (cases_lt v w) [ inl y ↦ inv.3 v a y f | inr y ↦ omega (arith, l.ready_mono w v y) ],
       )
+
+-- Further on, to a tick below which `ready` has no fixed point.
+pub search_further : (m : Amounts) (w u : ℕ) → Searched m w → w ≤ u → u ≤ 100000000 → u ≤ m.ready u → ((v : ℕ) → w ≤ v → v < u → m.ready v ≡ v → ⊥) → Searched m u
+search_further m w u s h b o p = (omega (arith, s.0), b, o, λ v a c f. elim (cases_lt v w) [ inl y ↦ s.3 v a y f | inr y ↦ p v y c f ])

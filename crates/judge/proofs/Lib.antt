@@ -1,3 +1,4 @@
 pub mod Questions
 pub mod LeastFixpoint
 pub mod Steps
+pub mod RowSteps

@@ -4,7 +4,7 @@ ghost use Rattle.theory.specs.Verdict.{busy};
 use theory::load::Load;
 
 /// The last tick at which a busy period may close.
-const LONGEST: u64 = 100_000_000;
+pub(crate) const LONGEST: u64 = 100_000_000;
 
 /// The busy period, if it closes: the least fixed point of `ready` from 1 on, reached from below, or 0 where
 /// nothing is ready within 1 tick.

@@ -1,8 +1,25 @@
 -- The loop of the judge is the walk: each step keeps the verdict on what is left to look at.
-use Rattle.std.proofs.Common.{Some, subst, sym, ◌∙◌, arith, rules}
+use Rattle.std.proofs.Common.{◌≡◌, ◌<◌, Some, subst, sym, ◌∙◌, arith, rules}
+use Rattle.theory.specs.Verdict.{busy}
 use Rattle.theory.proofs.Verdicts.{walk_open}
-use Rattle.judge.proofs.Steps.{Going, short, uncut, go_start, go_mark, go_jump, go_late, go_none, left_less}
+use Rattle.judge.proofs.Steps.{Going, left, short, uncut, go_start, go_step, go_late, go_none}
+use Rattle.judge.proofs.walk.judge.Given.{Over}
 use Rattle.judge.proofs.walk.judge.Goals as goal
+use Rattle.judge.proofs.walk.judge.Goals.{In_ok-busy, In-Some, In_ok-next}
+
+-- The busy period at which it closes.
+closes : (g : Over) (c : In_ok-busy g) → Some c.in_ok-busy.busy ≡ busy (g.L.Load.meaning c.args.load.now).amounts
+closes g c = sym c.in_ok-busy.ensures.ok_part ∙ c.busy_period.ensures
+
+-- Where the walk stands at a turn.
+here : (g : Over) (c : In-Some g) → Going (g.L.Load.meaning c.args.load.now).amounts c.in_ok-busy.busy (Some c.in-Some.t)
+here g c = subst (λ o. Going (g.L.Load.meaning c.args.load.now).amounts c.in_ok-busy.busy o) c.in-Some.is c.loop-next.invariant
+
+-- After a step it stands lower.
+after_step : (g : Over) (c : In_ok-next g) → Going (g.L.Load.meaning c.args.load.now).amounts c.in_ok-busy.busy (Some c.in-Some.t) → Some c.in_ok-busy.busy ≡ busy (g.L.Load.meaning c.args.load.now).amounts → Going (g.L.Load.meaning c.args.load.now).amounts c.in_ok-busy.busy c.in_ok-next.next × (left c.in_ok-next.next < left c.loop-next.next)
+after_step g c i b =
+    let s = go_step (g.L.Load.meaning c.args.load.now).amounts (g.met.L.Load.lawful c.args.load.now).rules c.in_ok-busy.busy b c.in-Some.t i c.in_ok-next.next (sym c.in_ok-next.was ∙ c.step.ensures) in
+    (s.0, subst (λ o. left c.in_ok-next.next < left o) (sym c.in-Some.is) s.1)
 
 pub returns-in_err-busy : goal.returns-in_err-busy
 returns-in_err-busy g c =
@@ -10,51 +27,27 @@ returns-in_err-busy g c =
     search rules
 
 pub loop-next-init : goal.loop-next-init
-loop-next-init g c =
-    go_start (g.L.Load.meaning c.args.load.now).amounts (g.met.L.Load.lawful c.args.load.now).rules c.in_ok-busy.busy (sym c.in_ok-busy.ensures.ok_part ∙ c.busy_period.ensures)
-    c.last_mark-next.result c.last_mark-next.ensures
+loop-next-init g c = go_start (g.L.Load.meaning c.args.load.now).amounts (g.met.L.Load.lawful c.args.load.now).rules c.in_ok-busy.busy (closes g (goal.at.loop-next-init g c).In_ok-busy) c.last_mark-next.result c.last_mark-next.ensures
 
-pub claim_at-claimed-requires : goal.claim_at-claimed-requires
-claim_at-claimed-requires g c =
-    let m = (g.L.Load.meaning c.args.load.now).amounts in
-    let l = (g.met.L.Load.lawful c.args.load.now).rules in
-    let w = c.in_ok-busy.busy in
-    let i : Going m w (Some c.in-Some.t) = subst (λ o. Going m w o) c.in-Some.is c.loop-next.invariant in
-    record { within = omega (arith, short m l w (sym c.in_ok-busy.ensures.ok_part ∙ c.busy_period.ensures), i.0.0); uncut = uncut m l w (sym c.in_ok-busy.ensures.ok_part ∙ c.busy_period.ensures) c.in-Some.t i.0.0 }
+pub step-requires : goal.step-requires
+step-requires g c =
+    let b = closes g (goal.at.step-requires g c).In_ok-busy in
+    let i = here g (goal.at.step-requires g c).In-Some in
+    record { within = omega (arith, short (g.L.Load.meaning c.args.load.now).amounts (g.met.L.Load.lawful c.args.load.now).rules c.in_ok-busy.busy b, i.0.0); uncut = uncut (g.L.Load.meaning c.args.load.now).amounts (g.met.L.Load.lawful c.args.load.now).rules c.in_ok-busy.busy b c.in-Some.t i.0.0 }
 
-pub returns-then-claimed-t : goal.returns-then-claimed-t
-returns-then-claimed-t g c =
-    let m = (g.L.Load.meaning c.args.load.now).amounts in
-    let l = (g.met.L.Load.lawful c.args.load.now).rules in
-    let w = c.in_ok-busy.busy in
-    let i : Going m w (Some c.in-Some.t) = subst (λ o. Going m w o) c.in-Some.is c.loop-next.invariant in
-    go_late m l w (sym c.in_ok-busy.ensures.ok_part ∙ c.busy_period.ensures) c.in-Some.t c.claim_at-claimed.result i c.claim_at-claimed.ensures c.if-claimed-t.true
-
-pub loop-next-preserved-then-claimed-t-2 : goal.loop-next-preserved-then-claimed-t-2
-loop-next-preserved-then-claimed-t-2 g c =
-    let m = (g.L.Load.meaning c.args.load.now).amounts in
-    let l = (g.met.L.Load.lawful c.args.load.now).rules in
-    let w = c.in_ok-busy.busy in
-    let i : Going m w (Some c.in-Some.t) = subst (λ o. Going m w o) c.in-Some.is c.loop-next.invariant in
-    go_jump m l w (sym c.in_ok-busy.ensures.ok_part ∙ c.busy_period.ensures) c.in-Some.t c.claim_at-claimed.result i c.claim_at-claimed.ensures c.if-claimed-t-2.true
+pub returns-in_err-next : goal.returns-in_err-next
+returns-in_err-next g c =
+    let late = go_late (g.L.Load.meaning c.args.load.now).amounts (g.met.L.Load.lawful c.args.load.now).rules c.in_ok-busy.busy (closes g (goal.at.returns-in_err-next g c).In_ok-busy) c.in-Some.t (here g (goal.at.returns-in_err-next g c).In-Some)
+    c.in_err-next.field-0.0 (sym c.in_err-next.was ∙ c.step.ensures) in
+    search rules
 
 pub loop-next-smaller : goal.loop-next-smaller
-loop-next-smaller g c =
-    left_less (g.L.Load.meaning c.args.load.now).amounts.mark c.in-Some.t c.last_mark-next-else-claimed-t-2.result c.loop-next.next
-    c.last_mark-next-else-claimed-t-2.ensures c.in-Some.is
+loop-next-smaller g c = (after_step g (goal.at.loop-next-smaller g c).In_ok-next (here g (goal.at.loop-next-smaller g c).In-Some) (closes g (goal.at.loop-next-smaller g c).In_ok-busy)).1
 
 pub loop-next-preserved : goal.loop-next-preserved
-loop-next-preserved g c =
-    let m = (g.L.Load.meaning c.args.load.now).amounts in
-    let l = (g.met.L.Load.lawful c.args.load.now).rules in
-    let w = c.in_ok-busy.busy in
-    let i : Going m w (Some c.in-Some.t) = subst (λ o. Going m w o) c.in-Some.is c.loop-next.invariant in
-    go_mark m l w (sym c.in_ok-busy.ensures.ok_part ∙ c.busy_period.ensures) c.in-Some.t c.claim_at-claimed.result i c.claim_at-claimed.ensures c.if-claimed-t.false
-    c.last_mark-next-else-claimed-t-2.result c.last_mark-next-else-claimed-t-2.ensures
+loop-next-preserved g c = (after_step g (goal.at.loop-next-preserved g c).In_ok-next (here g (goal.at.loop-next-preserved g c).In-Some) (closes g (goal.at.loop-next-preserved g c).In_ok-busy)).0
 
 pub returns : goal.returns
 returns g c =
-    let m = (g.L.Load.meaning c.args.load.now).amounts in
-    let l = (g.met.L.Load.lawful c.args.load.now).rules in
-    let w = c.in_ok-busy.busy in
-    go_none m l w (sym c.in_ok-busy.ensures.ok_part ∙ c.busy_period.ensures) (subst (λ o. Going m w o) c.in_default.is c.loop-next.invariant)
+    go_none (g.L.Load.meaning c.args.load.now).amounts (g.met.L.Load.lawful c.args.load.now).rules c.in_ok-busy.busy (closes g (goal.at.returns g c).In_ok-busy)
+    (subst (λ o. Going (g.L.Load.meaning c.args.load.now).amounts c.in_ok-busy.busy o) c.in_default.is c.loop-next.invariant)

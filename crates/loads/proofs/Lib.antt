@@ -1,9 +1,14 @@
 pub mod Ceil
 pub mod PlaceLoops
-pub mod Packing
+pub mod PlaceRows
 pub mod Fewer
 pub mod Labels
 pub mod ChannelViews
 pub mod TrainWithin
 pub mod TrainSums
 pub mod TrainMarks
+pub mod TrainRows
+pub mod TrainTurns
+pub mod TrainSince
+pub mod Stepping
+pub mod Topping

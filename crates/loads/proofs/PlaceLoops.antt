@@ -33,7 +33,7 @@ module _ {P : Type 0} (held : P → Option TaskParams) (ps : List P) (i : ℕ) w
   abbrev pub all : List TaskParams
   all = filter_map held ps
 
-  none_ahead : length ps ≤ i → ahead ≡ []
+  pub none_ahead : length ps ≤ i → ahead ≡ []
   none_ahead h = at_drop_all (filter_map held) ps i h
 
   -- at the end: a sum cut at 2^40, which is 1099511627776, the largest, and the last mark
@@ -47,7 +47,7 @@ module _ {P : Type 0} (held : P → Option TaskParams) (ps : List P) (i : ℕ) w
   last_end t a h v = sym (later_none a) ∙ ap (later a) (sym (last_none t)) ∙ ap (λ xs. later a (last_of xs t)) (sym (none_ahead h)) ∙ v
 
   module _ (p : P) (h : i < length ps) (e : p ≡ get_or ps i p) where
-    one_ahead : (o : Option (Bor Task)) → option_map params_behind o ≡ held p → ahead ≡ cons_option (option_map params_behind o) after
+    pub one_ahead : (o : Option (Bor Task)) → option_map params_behind o ≡ held p → ahead ≡ cons_option (option_map params_behind o) after
     one_ahead o q = at_drop_more (filter_map held) ps i p h ∙ ap (λ x. cons_option (held x) after) (sym e) ∙ ap (λ x. cons_option x after) (sym q)
 
     -- a place without a task

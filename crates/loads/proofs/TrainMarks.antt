@@ -1,5 +1,5 @@
 -- The last mark of a train below a tick.
-use Rattle.std.proofs.Common.{◌≡◌, ℕ, zero, suc, ◌+◌, ◌-◌, ◌*◌, ◌/◌, ◌%◌, ◌<◌, ◌≤◌, Bool, true, false, ◌||◌, eqb, leb, List, [], ◌∷◌, ◌++◌, map, length, get_or, take, drop, Some, None, Option, sym, refl, ap, ◌∙◌, ap₂, add-zero, add_assoc, mod-lt, mod-eq_of_lt, arith, length-take, length-drop, get_or-take, get_or-drop}
+use Rattle.std.proofs.Common.{◌≡◌, ℕ, zero, suc, ◌+◌, ◌-◌, ◌*◌, ◌/◌, ◌%◌, ◌<◌, ◌≤◌, Bool, true, false, ◌||◌, eqb, leb, List, [], ◌∷◌, ◌++◌, map, length, get_or, take, drop, Some, None, Option, sym, refl, ap, ◌∙◌, ap₂, add-zero, add_assoc, mod-lt, mod-eq_of_lt, arith}
 use mathlib.Core.List.{map-append}
 use lib.ListN.{length-map}
 use mathlib.Core.Path.{fun_ext}
@@ -8,7 +8,6 @@ use Rattle.std.specs.List.{fold, range_with_len}
 use Rattle.std.proofs.Math.Bool.{or_assoc}
 use Rattle.std.proofs.lemmas.List.{drop_all, drop_more, get_or-map}
 use Rattle.std.proofs.lemmas.List.Sums.{sum_by-take-drop}
-use Rattle.std.proofs.lemmas.List.Recursion.{is_sum_by}
 use Rattle.std.proofs.lemmas.Bool.{and_from, and_left, and_right, le-leb, lt-leb, eq-eqb, ne_eqb}
 use Rattle.theory.specs.Meaning.{last_mark, later}
 use Rattle.theory.proofs.LastMark.{last_is, last_either, last_none, later_none, later_assoc}
@@ -18,7 +17,7 @@ use Rattle.loads.specs.Params.{FrameParams}
 use Rattle.loads.specs.Making.{frame_params}
 use Rattle.loads.specs.Train.{cycle, circle_from, any_of, hits, mark_from, train_amounts}
 use Rattle.loads.specs.TrainRests.{params, gaps, EachRest}
-use Rattle.loads.proofs.TrainSums.{with_rest, circle_map, fold_turn}
+use Rattle.loads.proofs.TrainSums.{with_rest, circle_map, fold_turn, gaps_sum}
 
 -- The last of the ticks a, a + c, a + 2 * c, .. below t: none while t is at most a, and else the remainder of
 -- t - 1 - a by c before t - 1.
@@ -105,15 +104,7 @@ gaps_cycle (f ∷ fs) = ap (λ n. f.frame.gap + n) (gaps_cycle fs)
 
 -- A circle cut at place k: the gaps of its parts, and their rests.
 pub gaps_parts : (k : ℕ) (fs : List FrameRest) → gaps (take k fs) + gaps (drop k fs) ≡ gaps fs
-gaps_parts k fs =
-    let g = is_sum_by gaps (λ f. f.frame.gap) refl (λ _ _. refl) in
-    omega (arith, g (take k fs), g (drop k fs), g fs, sum_by-take-drop (λ (f : FrameRest). f.frame.gap) fs k)
-
-pub each_front : (c t k : ℕ) (fs : List FrameRest) → k ≤ length fs → EachRest c t fs → EachRest c t (take k fs)
-each_front c t k fs h e = λ j d l. let m : j < k = omega (arith, length-take k fs) in rw (get_or-take k fs j d m) (e j d (omega (arith)))
-
-pub each_back : (c t k : ℕ) (fs : List FrameRest) → EachRest c t fs → EachRest c t (drop k fs)
-each_back c t k fs e = λ j d l. rw (get_or-drop k fs j d) (e (k + j) d (omega (arith, length-drop k fs)))
+gaps_parts k fs = omega (arith, gaps_sum (take k fs), gaps_sum (drop k fs), gaps_sum fs, sum_by-take-drop (λ (f : FrameRest). f.frame.gap) fs k)
 
 -- The last mark of one run and of another one after it.
 pub last_append : (c t off : ℕ) (xs ys : List FrameRest) → last_mark (λ u. mark_from c u off (map params (xs ++ ys))) t

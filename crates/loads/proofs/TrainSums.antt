@@ -1,5 +1,5 @@
 -- The sums over the frames of a train, as its records keep them and its loops count them.
-use Rattle.std.proofs.Common.{◌≡◌, ℕ, zero, suc, ◌+◌, ◌*◌, ◌<◌, ◌≤◌, max, cond, ltb, List, [], ◌∷◌, ◌++◌, map, length, get_or, take, drop, set, sym, refl, ap, ap₂, ◌∙◌, arith, add-one, zero-add, add-zero, add_assoc, length-append, length-drop, length-take, take_all}
+use Rattle.std.proofs.Common.{◌≡◌, ℕ, zero, suc, ◌+◌, ◌*◌, ◌<◌, ◌≤◌, max, cond, ltb, List, [], ◌∷◌, ◌++◌, map, length, get_or, take, drop, set, None, sym, subst, refl, ap, ap₂, ◌∙◌, arith, add-one, zero-add, add-zero, add_assoc, length-append, length-drop, length-take, get_or-take, get_or-drop, take_all}
 use mathlib.Core.List.{map-append}
 use lib.ListN.{length-map}
 use Rattle.std.specs.List.{fold, sum_by, range_with_len}
@@ -13,7 +13,9 @@ use Rattle.loads.specs.declared.train.rest.FrameRest.{FrameRest}
 use Rattle.loads.specs.FixedVecs.{items_of, items_few}
 use Rattle.loads.specs.Params.{FrameParams}
 use Rattle.loads.specs.Making.{frame_params}
-use Rattle.loads.specs.Train.{cycle, circle_from, largest_of, sum_along, within, train_amounts}
+use Rattle.theory.specs.Meaning.{last_mark}
+use Rattle.theory.proofs.LastMark.{last_none}
+use Rattle.loads.specs.Train.{cycle, circle_from, largest_of, any_of, sum_along, within, train_amounts}
 use Rattle.loads.specs.TrainCircle.{largest_le, largest_same}
 use Rattle.loads.specs.TrainRests.{gaps, cost_within}
 use Rattle.loads.specs.TrainTally.{cond_le}
@@ -105,8 +107,30 @@ written_more g xs ys i x y h l e p q = take_more_set ys i y l ∙ ap₂ (λ zs z
 pub written_all : {A B : Type 0} (g : A → B) (xs : List A) (ys : List B) (i : ℕ) → i ≡ length xs → take i ys ≡ map g (take i xs) → take (length xs) ys ≡ map g xs
 written_all g xs ys i e q = ap (λ n. take n ys) (sym e) ∙ q ∙ ap (map g) (take_all i xs (omega arith))
 
--- Without frames nothing is ready.
+-- Without frames nothing is due or ready, and there is no mark.
+pub due_none : (fs : List Frame) (t : ℕ) → length fs ≡ 0 → 0 ≡ (train_amounts (map frame_params fs)).due t
+unfolding train_amounts largest_of
+due_none [] t h = refl
+due_none (f ∷ fs) t h = absurd (omega arith)
+
 pub ready_none : (fs : List Frame) (s : ℕ) → length fs ≡ 0 → 0 ≡ (train_amounts (map frame_params fs)).ready s
 unfolding train_amounts largest_of
 ready_none [] s h = refl
 ready_none (f ∷ fs) s h = absurd (omega arith)
+
+pub marks_none : (fs : List Frame) (t : ℕ) → length fs ≡ 0 → None ≡ last_mark (train_amounts (map frame_params fs)).mark t
+unfolding train_amounts any_of
+marks_none [] t h = sym (last_none t)
+marks_none (f ∷ fs) t h = absurd (omega arith)
+
+pub gaps_sum : (fs : List FrameRest) → gaps fs ≡ sum_by (λ f. f.frame.gap) fs
+gaps_sum = is_sum_by gaps (λ f. f.frame.gap) refl (λ _ _. refl)
+
+-- What holds of each frame holds of each one in a part.
+pub each_front : (P : FrameRest → Type 0) (k : ℕ) (fs : List FrameRest) → k ≤ length fs → ((j : ℕ) (d : FrameRest) → j < length fs → P (get_or fs j d))
+    → (j : ℕ) (d : FrameRest) → j < length (take k fs) → P (get_or (take k fs) j d)
+each_front P k fs h e = λ j d l. let m : j < k = omega (arith, length-take k fs) in subst P (sym (get_or-take k fs j d m)) (e j d (omega arith))
+
+pub each_back : (P : FrameRest → Type 0) (k : ℕ) (fs : List FrameRest) → ((j : ℕ) (d : FrameRest) → j < length fs → P (get_or fs j d))
+    → (j : ℕ) (d : FrameRest) → j < length (drop k fs) → P (get_or (drop k fs) j d)
+each_back P k fs e = λ j d l. subst P (sym (get_or-drop k fs j d)) (e (k + j) d (omega (arith, length-drop k fs)))

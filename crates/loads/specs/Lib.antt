@@ -10,6 +10,8 @@ pub mod Channels
 pub mod Slots
 pub mod Train
 pub mod TrainRests
+pub mod TrainRows
+pub mod Steps
 pub mod Statements
 pub mod Cases
 -- Lemmas, up to the proof that tasks and trains keep the laws of a load. An impl of `Load` cites that proof, and so they
@@ -26,3 +28,4 @@ pub mod TrainCounts
 pub mod TrainCircle
 pub mod TrainTally
 pub mod TrainLaws
+pub mod Held

@@ -57,7 +57,7 @@ due_is : (fs : List FrameParams) (t : ℕ) → (train_amounts fs).due t ≡ larg
 unfolding train_amounts
 due_is fs t = refl
 
-ready_is : (f : FrameParams) (fs : List FrameParams) → FrameRanges f → (s : ℕ) → (train_amounts (f ∷ fs)).ready (suc s) ≡ largest_of (λ k. tally comes (cycle (f ∷ fs)) s 0 (circle_from k (f ∷ fs))) (length (f ∷ fs))
+pub ready_is : (f : FrameParams) (fs : List FrameParams) → FrameRanges f → (s : ℕ) → (train_amounts (f ∷ fs)).ready (suc s) ≡ largest_of (λ k. tally comes (cycle (f ∷ fs)) s 0 (circle_from k (f ∷ fs))) (length (f ∷ fs))
 unfolding train_amounts
 ready_is f fs r s = largest_same (λ k. ready_from (cycle (f ∷ fs)) (suc s) 0 (circle_from k (f ∷ fs))) (λ k. tally comes (cycle (f ∷ fs)) s 0 (circle_from k (f ∷ fs))) (length (f ∷ fs))
     (λ k h. ready_tally (cycle (f ∷ fs)) s 0 (circle_from k (f ∷ fs)) (cycle_pos f fs r))

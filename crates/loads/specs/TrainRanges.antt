@@ -9,16 +9,16 @@ use Rattle.loads.specs.Params.{FrameParams, FrameRanges}
 use Rattle.loads.specs.Making.{frame_params}
 use Rattle.loads.specs.Train.{circle_from, frames_of}
 
-all_append : (P : FrameParams → Type 0) (xs ys : List FrameParams) → All P xs → All P ys → All P (xs ++ ys)
+all_append : {A : Type 0} (P : A → Type 0) (xs ys : List A) → All P xs → All P ys → All P (xs ++ ys)
 all_append P [] ys a b = b
 all_append P (x ∷ xs) ys a b = (a.0, all_append P xs ys a.1 b)
 
-all_take : (P : FrameParams → Type 0) (k : ℕ) (xs : List FrameParams) → All P xs → All P (take k xs)
+all_take : {A : Type 0} (P : A → Type 0) (k : ℕ) (xs : List A) → All P xs → All P (take k xs)
 all_take P zero xs a = tt
 all_take P (suc k) [] a = tt
 all_take P (suc k) (x ∷ xs) a = (a.0, all_take P k xs a.1)
 
-all_drop : (P : FrameParams → Type 0) (k : ℕ) (xs : List FrameParams) → All P xs → All P (drop k xs)
+all_drop : {A : Type 0} (P : A → Type 0) (k : ℕ) (xs : List A) → All P xs → All P (drop k xs)
 all_drop P zero xs a = a
 all_drop P (suc k) [] a = tt
 all_drop P (suc k) (x ∷ xs) a = all_drop P k xs a.1
@@ -27,7 +27,7 @@ all_drop P (suc k) (x ∷ xs) a = all_drop P k xs a.1
 pub all_turned : (P : FrameParams → Type 0) (f : FrameParams) (fs : List FrameParams) → All P (f ∷ fs) → All P (fs ++ (f ∷ []))
 all_turned P f fs a = all_append P fs (f ∷ []) a.1 (a.0, tt)
 
-pub all_from : (P : FrameParams → Type 0) (k : ℕ) (fs : List FrameParams) → All P fs → All P (circle_from k fs)
+pub all_from : {A : Type 0} (P : A → Type 0) (k : ℕ) (fs : List A) → All P fs → All P (circle_from k fs)
 unfolding circle_from
 all_from P k fs a = all_append P (drop k fs) (take k fs) (all_drop P k fs a) (all_take P k fs a)
 

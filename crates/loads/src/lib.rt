@@ -1,4 +1,4 @@
-//! The records of a plan and the kinds of load: tasks in a table of 64 channels, and frames in a ramp train.
+//! The records of a plan and the kinds of load: tasks in a table of 64 channels or in a list, and frames in a ramp train.
 
 #![tactic(auto)]
 
@@ -10,6 +10,7 @@ pub mod marks;
 mod places;
 mod ranges;
 pub mod refusal;
+mod steps;
 pub mod table;
 pub mod task;
 pub mod theorems;

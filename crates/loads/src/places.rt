@@ -1,16 +1,17 @@
 ghost use Rattle.std.specs.Prelude.{◌≡◌, ℕ, ◌^◌, min, Option, filter_map};
 ghost use Rattle.std.specs.Option.{option_map};
 ghost use Rattle.theory.specs.Meaning.{last_mark};
+ghost use Rattle.theory.specs.Rows.{row};
 ghost use Rattle.loads.specs.Params.{TaskParams};
 ghost use Rattle.loads.specs.Tasks.{total, largest, any, task_mark};
 ghost use Rattle.loads.specs.Places.{Gives, params_behind};
+ghost use Rattle.loads.specs.Steps.{grown};
 
 use crate::marks::later;
+use crate::steps::{CUT, Steps};
 use crate::task::Task;
 use crate::ticks::Ticks;
-
-/// The largest amount that a question answers.
-const CUT: u64 = 1 << 40;
+use theory::rows::ROW;
 
 /// A place in which a task can stand.
 pub(crate) trait Place {
@@ -61,4 +62,20 @@ pub(crate) fn latest<P: Place, F: Fn(&Task) -> Option<u64>>(places: &[P], mark: 
         }
     }
     last
+}
+
+/// The row, from `from` on, of what the tasks of these places grow to together, cut at 2^40. A task grows by its cost at
+/// the tick that the closure gives of it and again after every period, each of these brought forward by its jitter.
+pub(crate) fn row<P: Place, F: Fn(&Task) -> u32>(places: &[P], from: u64, first: F) -> [u64; ROW]
+    requires { F.IsAlwaysCallable first }
+    ensures { (f : TaskParams → ℕ) → Gives F.Fn first f → result ≡ row (λ t. total (λ x. grown x (f x) t) (filter_map P.stands places.now)) from }
+{
+    let from = Ticks::upto(from);
+    let mut steps = Steps::new(0);
+    for place in places {
+        if let Some(task) = place.task() {
+            task.add(from, first(task), &mut steps);
+        }
+    }
+    steps.row()
 }

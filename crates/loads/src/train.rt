@@ -19,5 +19,7 @@ pub mod load;
 pub mod make;
 mod marks;
 mod rest;
+mod rows;
 mod sums;
+mod turns;
 mod within;

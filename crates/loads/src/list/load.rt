@@ -9,7 +9,7 @@ use crate::ticks::Ticks;
 use theory::load::Load;
 
 /// A list of tasks is a load: its tasks side by side.
-impl Load for TaskList {
+impl<const N: usize> Load for TaskList<N> {
     ghost meaning = { λ l. tasks_meaning (tasks_of l) };
 
     ghost lawful = { λ x. tasks_laws (tasks_of x) (list_ranged x) };

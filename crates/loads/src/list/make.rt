@@ -1,4 +1,4 @@
-ghost use Rattle.std.specs.Prelude.{◌≡◌, [], map};
+ghost use Rattle.std.specs.Prelude.{◌≡◌, [], map, take};
 ghost use Rattle.loads.specs.Making.{task_params};
 ghost use Rattle.loads.specs.Lists.{tasks_of, appended};
 
@@ -7,9 +7,9 @@ use crate::fixed_vec::FixedVec;
 use crate::refusal::Refusal;
 use crate::task::Task;
 
-impl TaskList {
+impl<const N: usize> TaskList<N> {
     /// A list without tasks.
-    pub fn new() -> TaskList
+    pub fn new() -> TaskList<N>
         ensures { tasks_of result ≡ [] }
     {
         TaskList {
@@ -24,10 +24,17 @@ impl TaskList {
         self.tasks.as_slice()
     }
 
-    /// Adds a task at the end; a list that holds as many as there are channels refuses with 7 and stays as it was.
+    /// Adds a task at the end; a list that holds N refuses with 7 and stays as it was.
     pub fn push(&mut self, task: Task) -> Result<(), Refusal>
-        ensures { (result, tasks_of self.new) ≡ appended (tasks_of self.old) (task_params task) }
+        ensures { (result, tasks_of self.new) ≡ appended N (tasks_of self.old) (task_params task) }
     {
         self.tasks.push(task).map_err(|_| Refusal::NoChannel)
+    }
+
+    /// Keeps the first n tasks only.
+    pub fn truncate(&mut self, n: usize)
+        ensures { tasks_of self.new ≡ take n (tasks_of self.old) }
+    {
+        self.tasks.truncate(n);
     }
 }

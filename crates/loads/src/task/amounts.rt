@@ -1,11 +1,14 @@
-ghost use Rattle.std.specs.Prelude.{◌≡◌, ◌-◌, Some};
+ghost use Rattle.std.specs.Prelude.{◌≡◌, ℕ, ◌+◌, ◌-◌, ◌<◌, min, Some};
 ghost use Rattle.theory.specs.Meaning.{last_mark};
 ghost use Rattle.loads.specs.Making.{task_params};
 ghost use Rattle.loads.specs.Tasks.{task_due, task_held, task_ready, task_mark};
+ghost use Rattle.loads.specs.Steps.{reached, grown};
 
 use super::Task;
 use crate::places::Place;
+use crate::steps::Steps;
 use crate::ticks::Ticks;
+use theory::rows::ROW;
 
 /// A task alone is a place as well: it stands there itself.
 impl Place for Task {
@@ -66,5 +69,19 @@ impl Task {
         let below = t.count().checked_sub(1)?;
         let past = below.checked_sub(self.start())?;
         Some(below - past % u64::from(self.period))
+    }
+
+    /// Adds the task to a row that begins at `from`: at tick t of it, its cost for each of the ticks `first`,
+    /// `first` + T, .. up to t + J.
+    pub(crate) fn add(&self, from: Ticks, first: u32, steps: &mut Steps)
+        ensures { (i : ℕ) → i < 256 → min (reached steps.new.added i) 1099511627776 ≡ min (reached steps.old.added i + grown (task_params self.now) first (from + i)) 1099511627776 }
+    {
+        steps.add(
+            from.count() + u64::from(self.jitter),
+            u64::from(first),
+            u64::from(self.period),
+            u64::from(self.cost),
+            ROW,
+        );
     }
 }

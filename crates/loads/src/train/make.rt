@@ -48,6 +48,15 @@ impl RampTrain {
         Ok(())
     }
 
+    /// Takes all frames out.
+    pub fn clear(&mut self)
+        ensures { frames_of self.new ≡ [] }
+    {
+        self.frames.truncate(0);
+        self.round = 0;
+        self.work = 0;
+    }
+
     /// Replaces what the train holds by these frames; more than sixteen are refused, and the train stays as it was.
     pub fn fill(&mut self, frames: &[Frame]) -> Result<(), Refusal>
         ensures { (result, frames_of self.new) ≡ refilled (frames_of self.old) (map frame_params frames.now) }

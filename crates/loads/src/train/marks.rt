@@ -100,6 +100,9 @@ impl RampTrain {
         ensures { result ≡ last_mark (train_amounts (frames_of self.now)).mark t }
     {
         let frames = self.frames();
+        if frames.is_empty() {
+            return None;
+        }
         let t = t.count();
         let round = self.round();
         let mut rests = [FrameRest::least(); 16];

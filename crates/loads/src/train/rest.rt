@@ -2,7 +2,8 @@ ghost use Rattle.std.specs.Prelude.{◌≡◌};
 
 use crate::frame::Frame;
 
-/// A frame, and what whole rounds leave of a time.
+/// A frame and a number of ticks: what whole rounds leave of a time, or, in `Turns`, after how many ticks from its release
+/// the frame counts.
 #[derive(Clone, Copy)]
 pub(crate) struct FrameRest {
     pub(crate) frame: Frame,

@@ -33,6 +33,9 @@ impl RampTrain {
         ensures { result ≡ (train_amounts (frames_of self.now)).due t }
     {
         let frames = self.frames();
+        if frames.is_empty() {
+            return 0;
+        }
         let t = t.count();
         let round = self.round();
         let mut rests = [FrameRest::least(); 16];

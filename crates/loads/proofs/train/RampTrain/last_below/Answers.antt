@@ -1,11 +1,17 @@
--- The places written hold each frame with its rest, and so the last mark over them is that of the train.
+-- The places written hold each frame with its rest, and so the last mark over them is that of the train; without frames there is none.
 use Rattle.std.proofs.Common.{◌≡◌, ◌-◌, ◌%◌, map, length, sym, ap, ap₂, ◌∙◌, arith, rules}
+use Rattle.std.proofs.lemmas.Bool.{eqb-true}
 use Rattle.theory.specs.Meaning.{last_mark}
 use Rattle.loads.specs.Train.{cycle, circle_from, any_of, mark_from, train_amounts}
 use Rattle.loads.specs.TrainRests.{params}
-use Rattle.loads.proofs.TrainSums.{with_rest, written_more, written_all}
+use Rattle.loads.proofs.TrainSums.{with_rest, marks_none, written_more, written_all}
 use Rattle.loads.proofs.TrainMarks.{each_written, gaps_written, marks_written}
 use Rattle.loads.proofs.train.RampTrain.last_below.Goals as goal
+
+pub returns-then-is_empty : goal.returns-then-is_empty
+returns-then-is_empty c =
+    let fs = c.frames-frames.result.now in
+    marks_none fs c.args.t (eqb-true (length fs) 0 (sym c.if-is_empty.ensures)) ∙ ap (λ ps. last_mark (train_amounts ps).mark c.args.t) c.frames-frames.ensures.same
 
 pub loop-i-preserved : goal.loop-i-preserved
 loop-i-preserved c =

@@ -1,13 +1,19 @@
--- The work of whole rounds and the largest within the rests are what is due.
+-- The work of whole rounds and the largest within the rests are what is due; without frames it is nothing.
 use Rattle.std.proofs.Common.{◌≡◌, ◌+◌, ◌-◌, ◌*◌, ◌/◌, ◌%◌, map, length, sym, ap, ap₂, ◌∙◌, arith, rules, take_all}
 use Rattle.std.specs.List.{sum_by}
+use Rattle.std.proofs.lemmas.Bool.{eqb-true}
 use Rattle.std.proofs.lemmas.Grind.{common_steps}
 use Rattle.loads.specs.Making.{frame_params}
 use Rattle.loads.specs.Train.{cycle, train_amounts}
 use Rattle.loads.specs.TrainRanges.{all_ranged}
 use Rattle.loads.proofs.TrainWithin.{due_split}
-use Rattle.loads.proofs.TrainSums.{with_rest, sum_by_frame, most_rests, written_more, written_all}
+use Rattle.loads.proofs.TrainSums.{with_rest, sum_by_frame, due_none, most_rests, written_more, written_all}
 use Rattle.loads.proofs.train.RampTrain.most_due.Goals as goal
+
+pub returns-then-is_empty : goal.returns-then-is_empty
+returns-then-is_empty c =
+    let fs = c.frames-frames.result.now in
+    due_none fs c.args.t (eqb-true (length fs) 0 (sym c.if-is_empty.ensures)) ∙ ap (λ ps. (train_amounts ps).due c.args.t) c.frames-frames.ensures.same
 
 pub loop-i-preserved : goal.loop-i-preserved
 loop-i-preserved c =

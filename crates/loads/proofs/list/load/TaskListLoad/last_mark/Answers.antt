@@ -6,4 +6,4 @@ use Rattle.loads.proofs.list.load.TaskListLoad.last_mark.Goals as goal
 
 pub returns : goal.returns
 unfolding tasks_meaning tasks_amounts
-returns c = c.latest.ensures c.upto-t.result (λ x r m. search rules) ∙ (λ i. last_of ((tasks_stand c.tasks.result.now ∙ c.tasks.ensures) i) (c.upto-t.ensures i))
+returns g c = c.latest.ensures c.upto-t.result (λ x r m. search rules) ∙ (λ i. last_of ((tasks_stand c.tasks.result.now ∙ c.tasks.ensures) i) (c.upto-t.ensures i))

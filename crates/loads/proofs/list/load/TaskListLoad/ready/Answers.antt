@@ -6,6 +6,6 @@ use Rattle.loads.proofs.list.load.TaskListLoad.ready.Goals as goal
 
 pub returns : goal.returns
 unfolding tasks_meaning tasks_amounts
-returns c =
+returns g c =
     c.total.ensures (λ x. task_ready x c.upto-s.result) (λ x r m. search rules)
     ∙ (λ i. min (total (λ x. task_ready x (c.upto-s.ensures i)) ((tasks_stand c.tasks.result.now ∙ c.tasks.ensures) i)) 1099511627776)

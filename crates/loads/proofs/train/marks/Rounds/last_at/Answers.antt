@@ -1,16 +1,17 @@
 -- The circle begun at k is a run of the frames from k on, and after it one of those before k.
-use Rattle.std.proofs.Common.{◌+◌, map, take, drop, sym, ap, ap₂, ◌∙◌, arith}
+use Rattle.std.proofs.Common.{◌%◌, ◌-◌, ◌≡◌, ◌+◌, map, take, drop, sym, ap, ap₂, ◌∙◌, arith}
 use Rattle.theory.specs.Meaning.{last_mark, later}
 use Rattle.loads.specs.Train.{circle_from, mark_from}
 use Rattle.loads.specs.TrainRests.{params, gaps}
-use Rattle.loads.proofs.TrainMarks.{gaps_parts, each_front, each_back, last_append}
+use Rattle.loads.proofs.TrainMarks.{gaps_parts, last_append}
+use Rattle.loads.proofs.TrainSums.{each_front, each_back}
 use Rattle.loads.proofs.train.marks.Rounds.last_at.Goals as goal
 
 pub invariant_of-after : goal.invariant_of-after
 invariant_of-after c =
     let s = c.args.self.now in
     record {
-      each = rw c.split_at.ensures.back (each_back s.round s.t c.args.k s.frames.now s.each);
+      each = rw c.split_at.ensures.back (each_back (λ f. f.rest ≡ (s.t - 1 - f.frame.deadline) % s.round) c.args.k s.frames.now s.each);
       whole = rw c.split_at.ensures.back (omega (arith, gaps_parts c.args.k s.frames.now));
       near = s.near;
     }
@@ -19,7 +20,7 @@ pub invariant_of-before : goal.invariant_of-before
 invariant_of-before c =
     let s = c.args.self.now in
     record {
-      each = rw c.split_at.ensures.front (each_front s.round s.t c.args.k s.frames.now c.requires s.each);
+      each = rw c.split_at.ensures.front (each_front (λ f. f.rest ≡ (s.t - 1 - f.frame.deadline) % s.round) c.args.k s.frames.now c.requires s.each);
       whole = rw c.split_at.ensures.front (omega (arith, gaps_parts c.args.k s.frames.now));
       near = s.near;
     }

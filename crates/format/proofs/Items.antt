@@ -16,11 +16,11 @@ abbrev pub Item : Type 0
 Item = Result Piece ImageFault
 
 -- What was read at the front lies within the bytes, and a part begins at `at` and is not empty.
-abbrev Within : ℕ → List ℕ → Option Piece → Type 0
+abbrev pub Within : ℕ → List ℕ → Option Piece → Type 0
 Within at xs None = 2 ≤ length xs
 Within at xs (Some p) = (offset p ≡ at) × (size (rec_in p) ≤ length xs) × (0 < size (rec_in p))
 
-within : (at : ℕ) (xs : List ℕ) (o : Option Piece) → part at xs ≡ Ok o → Within at xs o
+pub within : (at : ℕ) (xs : List ℕ) (o : Option Piece) → part at xs ≡ Ok o → Within at xs o
 within at xs o p = part_cases at xs (Within at xs) (λ l m. (refl, l, omega arith)) (λ l m. (refl, l, omega arith)) (λ l m. l) o p
 
 -- A part lies within the image, and the end mark too.

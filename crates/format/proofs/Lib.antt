@@ -4,6 +4,7 @@ pub mod RecordBytes
 pub mod Front
 pub mod RoundTrip
 pub mod Items
+pub mod Counts
 pub mod TakingFrames
 pub mod Rising
 pub mod EnteringTasks

@@ -1,7 +1,7 @@
 -- Admitting the tasks of an image one after another into a new plan: the verdicts on the first task, on the first two,
 -- and so on, up to one that refuses.
-use Rattle.std.proofs.Common.{◌≡◌, ℕ, zero, suc, ◌+◌, ◌*◌, ◌≤◌, false, ltb, List, [], ◌∷◌, ◌++◌, length, get_or, take, drop, set, Some, None, Ok, Err, Option, Result, sym, refl, ap, ◌∙◌, subst, append_assoc, arith, length-set}
-use Rattle.std.proofs.lemmas.List.{append-nil, map-append, take_more, drop_more}
+use Rattle.std.proofs.Common.{◌≡◌, ℕ, zero, suc, ◌+◌, ◌*◌, ◌≤◌, false, ltb, List, [], ◌∷◌, ◌++◌, length, get_or, take, drop, set, Some, None, Ok, Err, Option, Result, sym, refl, ap, ap₂, ◌∙◌, subst, append_assoc, arith, length-set, length-take}
+use Rattle.std.proofs.lemmas.List.{append-nil, take-append-drop, map-append, take_more, drop_more}
 use Rattle.std.proofs.lemmas.Bool.{le-ltb}
 use Rattle.theory.specs.declared.verdict.Unfit.{Unfit}
 use Rattle.theory.specs.Jobs.{All}
@@ -9,8 +9,7 @@ use Rattle.theory.specs.Meaning.{Meaning, Laws}
 use Rattle.theory.specs.Beside.{beside}
 use Rattle.theory.specs.Verdict.{walk, Accepted}
 use Rattle.theory.specs.Statements.{Lower}
-use Rattle.theory.proofs.Verdicts.{accepted_yes}
-use Rattle.theory.proofs.Walk.{walk_is_look}
+use Rattle.theory.proofs.Verdicts.{accepted_yes, accepted_ok}
 use Rattle.theory.proofs.Lower.{accepted_lower}
 use Rattle.theory.proofs.BesideLaws.{beside_laws, beside_lower}
 use Rattle.loads.specs.declared.refusal.Refusal.{Refusal}
@@ -127,49 +126,54 @@ all_front : (xs ys : List TaskParams) → All TaskRanges (xs ++ ys) → All Task
 all_front [] ys r = tt
 all_front (x ∷ xs) ys r = (r.0, all_front xs ys r.1)
 
--- Where all the tasks together are accepted, none of them is refused on the way.
+-- Where the first tasks are accepted together, none of them is refused on the way.
 module _ (g : Meaning) (lg : Laws g) where
   pub laws_of : (xs : List TaskParams) → All TaskRanges xs → Laws (beside (tasks_meaning xs) g)
   laws_of xs r = beside_laws (tasks_meaning xs) g (tasks_laws xs r) lg
 
-  pub none_refused : (at : ℕ) (pre xs : List TaskParams) → All TaskRanges (pre ++ xs) → Accepted (beside (tasks_meaning (pre ++ xs)) g).amounts → first_refused g at pre xs ≡ None
+  passed : (at : ℕ) (pre xs ys : List TaskParams) → All TaskRanges (pre ++ xs) → Accepted (beside (tasks_meaning (pre ++ xs)) g).amounts
+      → first_refused g at pre (xs ++ ys) ≡ first_refused g (at + 37 * length xs) (pre ++ xs) ys
   unfolding first_refused
-  none_refused at pre [] r a = refl
-  none_refused at pre (x ∷ xs) r a =
+  passed at pre [] ys r a = ap₂ (λ k zs. first_refused g k zs ys) (let n : at ≡ at + 37 * length {A = TaskParams} [] = omega arith in n) (sym (append-nil pre))
+  passed at pre (x ∷ xs) ys r a =
       let front = pre ++ (x ∷ []) in
       let e : pre ++ (x ∷ xs) ≡ front ++ xs = sym (append_assoc pre (x ∷ []) xs) in
       let r' = subst (All TaskRanges) e r in
-      let a' = subst (λ (ys : List TaskParams). Accepted (beside (tasks_meaning ys) g).amounts) e a in
+      let a' = subst (λ (zs : List TaskParams). Accepted (beside (tasks_meaning zs) g).amounts) e a in
       let l = (laws_of front (all_front front xs r')).rules in
       let b : Accepted (beside (tasks_meaning front) g).amounts =
       accepted_lower (beside (tasks_meaning front) g).amounts (beside (tasks_meaning (front ++ xs)) g).amounts l (laws_of (front ++ xs) r').rules
       (beside_lower (tasks_meaning front) (tasks_meaning (front ++ xs)) g (front_lower front xs)) a' in
       let v = accepted_yes (beside (tasks_meaning front) g).amounts l b in
-      ap (λ (o : Result ℕ Unfit). let d : Option (Unfit × ℕ) = elim o [ Err u ↦ Some (u, at) | Ok w ↦ first_refused g (at + 37) front xs ] in d) v.1
-      ∙ none_refused (at + 37) front xs r' a'
+      let n : at + 37 + 37 * length xs ≡ at + 37 * length (x ∷ xs) = omega arith in
+      ap (λ (o : Result ℕ Unfit). let d : Option (Unfit × ℕ) = elim o [ Err u ↦ Some (u, at) | Ok w ↦ first_refused g (at + 37) front (xs ++ ys) ] in d) v.1
+      ∙ passed (at + 37) front xs ys r' a'
+      ∙ ap₂ (λ k zs. first_refused g k zs ys) n (sym e)
 
--- One more task at a time: what is left to come tells where the first refusal is.
-module _ (g : Meaning) (ps qs : List TaskParams) (i : ℕ) (d : TaskParams) (h : suc i ≤ length ps) (same : qs ≡ take (i + 1) ps) (laws : Laws (beside (tasks_meaning qs) g))
-    (inv : first_refused g (37 * i) (take i ps) (drop i ps) ≡ first_refused g 0 [] ps) where
-  -- The first refusal from task i on, by the verdict on the tasks up to it.
-  by : Result ℕ Unfit → Option (Unfit × ℕ)
-  by v = elim v [ Err u ↦ Some (u, 37 * i) | Ok w ↦ first_refused g (37 * i + 37) (take (i + 1) ps) (drop (i + 1) ps) ]
+  pub none_refused : (at : ℕ) (pre xs : List TaskParams) → All TaskRanges (pre ++ xs) → Accepted (beside (tasks_meaning (pre ++ xs)) g).amounts → first_refused g at pre xs ≡ None
+  unfolding first_refused
+  none_refused at pre xs r a = ap (first_refused g at pre) (sym (append-nil xs)) ∙ passed at pre xs [] r a
 
-  turn : (v : Result ℕ Unfit) → v ≡ walk (beside (tasks_meaning qs) g).amounts → by v ≡ first_refused g 0 [] ps
-  unfolding first_refused by
-  turn v e =
-      let t : take (i + 1) ps ≡ take i ps ++ (get_or ps i d ∷ []) = take_more ps i d h in
-      let w : v ≡ weigh g (take i ps ++ (get_or ps i d ∷ [])) = e ∙ walk_is_look (beside (tasks_meaning qs) g).amounts laws.rules ∙ ap (weigh g) (same ∙ t) in
-      (λ j. elim (w j) [ Err u ↦ Some (u, 37 * i) | Ok x ↦ first_refused g (37 * i + 37) (t j) (drop (i + 1) ps) ])
-      ∙ ap (first_refused g (37 * i) (take i ps)) (sym (drop_more ps i d h))
-      ∙ inv
+-- Between first tasks that are accepted together, and some more that are not: where the first refusal is.
+module _ (g : Meaning) (ps : List TaskParams) where
+  -- The first k tasks are not refused on the way.
+  abbrev pub Passed : ℕ → Type 0
+  Passed k = first_refused g 0 [] ps ≡ first_refused g (37 * k) (take k ps) (drop k ps)
 
-  pub turn_on : (w : ℕ) → Ok w ≡ walk (beside (tasks_meaning qs) g).amounts → first_refused g (37 * (i + 1)) (take (i + 1) ps) (drop (i + 1) ps) ≡ first_refused g 0 [] ps
-  unfolding by
-  turn_on w e =
-      let n : 37 * (i + 1) ≡ 37 * i + 37 = omega arith in
-      ap (λ (k : ℕ). first_refused g k (take (i + 1) ps) (drop (i + 1) ps)) n ∙ turn (Ok w) e
+  pub front_passed : Laws g → All TaskRanges ps → (k w : ℕ) → k ≤ length ps → Ok w ≡ walk (beside (tasks_meaning (take k ps)) g).amounts → Passed k
+  front_passed lg ranged k w h e =
+      let t : take k ps ++ drop k ps ≡ ps = take-append-drop k ps in
+      let r : All TaskRanges (take k ps) = all_front (take k ps) (drop k ps) (subst (All TaskRanges) (sym t) ranged) in
+      let n : 0 + 37 * length (take k ps) ≡ 37 * k = omega (arith, length-take k ps) in
+      ap (first_refused g 0 []) (sym t)
+      ∙ passed g lg 0 [] (take k ps) (drop k ps) r (accepted_ok (beside (tasks_meaning (take k ps)) g).amounts (laws_of g lg (take k ps) r).rules w e)
+      ∙ ap (λ (m : ℕ). first_refused g m (take k ps) (drop k ps)) n
 
-  pub turn_refused : (u : Unfit) → Err u ≡ walk (beside (tasks_meaning qs) g).amounts → first_refused g 0 [] ps ≡ Some (u, 37 * i)
-  unfolding by
-  turn_refused u e = sym (turn (Err u) e)
+  pub next_refused : (k : ℕ) (d : TaskParams) (u : Unfit) → suc k ≤ length ps → Passed k → Err u ≡ weigh g (take (k + 1) ps) → first_refused g 0 [] ps ≡ Some (u, 37 * k)
+  unfolding first_refused
+  next_refused k d u h p e =
+      let t : take (k + 1) ps ≡ take k ps ++ (get_or ps k d ∷ []) = take_more ps k d h in
+      let w : weigh g (take k ps ++ (get_or ps k d ∷ [])) ≡ Err u = ap (weigh g) (sym t) ∙ sym e in
+      p
+      ∙ ap (first_refused g (37 * k) (take k ps)) (drop_more ps k d h)
+      ∙ ap (λ (o : Result ℕ Unfit). let r : Option (Unfit × ℕ) = elim o [ Err u ↦ Some (u, 37 * k) | Ok w ↦ first_refused g (37 * k + 37) (take k ps ++ (get_or ps k d ∷ [])) (drop (k + 1) ps) ] in r) w

@@ -56,6 +56,14 @@ task_passes b at t p = go (good_label t.content.label) (leb t.channel 63) (leb b
       ranged = in_range at (task_refusal t.content.params) q;
     }
 
+-- The channels of the tasks rise up to 63, so there are at most 64 of them.
+pub few_tasks : (b : Before) (rs : List Rec) → b.least ≤ 64 → Lawful b rs → b.least + length (tasks_in rs) ≤ 64
+few_tasks b [] h k = omega arith
+few_tasks b (task_rec t ∷ rs) h k =
+    let w = task_passes b k.0.0 t k.0.1 in
+    omega (arith, w.rising, w.channel, few_tasks (after b (task_rec t)) rs (omega (arith, w.channel)) k.1)
+few_tasks b (frame_rec f ∷ rs) h k = few_tasks (after b (frame_rec f)) rs h k.1
+
 -- After a frame there are no tasks.
 pub no_tasks : (b : Before) (rs : List Rec) → 0 < b.frames → Lawful b rs → tasks_in rs ≡ []
 no_tasks b [] h k = refl

@@ -32,8 +32,7 @@ impl From<ImageFault> for RecordFault {
     }
 }
 
-/// Why a plan is not filled: a record's fault whole, or the plan's refusal of the task at this offset. Each layer has a
-/// fault type of its own, as the project asks.
+/// Why a plan is not filled: a record's fault whole, or the plan's refusal of the task at this offset.
 #[derive(Clone, Copy, PartialEq, Eq, Debug)]
 pub enum PlanFault {
     /// The fault of a record, whole.

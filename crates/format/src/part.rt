@@ -4,8 +4,7 @@ pub const TASK: usize = 37;
 /// How many bytes the record of a frame takes, its mark with it.
 pub const FRAME: usize = 14;
 
-/// One record of the image: its bytes, its mark with them, borrowed from the image, and their offset. Both stand in the
-/// case itself, as the project asks, and are passed on as two arguments.
+/// One record of the image: its bytes, its mark with them, borrowed from the image, and their offset.
 #[derive(Clone, Copy)]
 pub enum Part<'a> {
     /// The bytes of a task.

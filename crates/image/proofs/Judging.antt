@@ -1,7 +1,6 @@
 -- From the answers of the reading calls and of the judge to the verdict of an image.
 use Rattle.std.proofs.Common.{◌≡◌, ℕ, ◌+◌, ◌*◌, max, List, [], ◌∷◌, ◌++◌, length, Some, None, Ok, Err, Option, Result, sym, refl, ap, ◌∙◌, subst, zero-add, arith}
 use Rattle.std.specs.Result.{MatchResult}
-use Rattle.std.proofs.lemmas.List.{length-map}
 use Rattle.theory.specs.declared.verdict.Unfit.{Unfit}
 use Rattle.theory.specs.Jobs.{All}
 use Rattle.theory.specs.Meaning.{Amounts, Rules, Meaning, Laws}
@@ -43,7 +42,7 @@ Judged = Result ℕ PlanFault
 pub laws_of_train : (train : RampTrain) → Laws (train_meaning (frames_of train))
 laws_of_train train = train_laws (frames_of train) (frames_ranged train)
 
-pub laws_beside : (tasks : TaskList) (train : RampTrain) → Laws (beside (tasks_meaning (tasks_of tasks)) (train_meaning (frames_of train)))
+pub laws_beside : {N : ℕ} (tasks : TaskList N) (train : RampTrain) → Laws (beside (tasks_meaning (tasks_of tasks)) (train_meaning (frames_of train)))
 laws_beside tasks train = laws_of (train_meaning (frames_of train)) (laws_of_train train) (tasks_of tasks) (list_ranged tasks)
 
 -- Where the frames are not taken, the image was not read.
@@ -120,31 +119,33 @@ module _ (xs : List ℕ) (fs : List FrameParams) (k : Read xs fs) (fr : All Fram
       ∙ ap (over_train k.records) (sym e)
 
   -- The train alone is refused.
-  pub train_refused : (v : Result ℕ Unfit) (e : PlanFault) (n : ℕ) (ps : List TaskParams) → v ≡ walk g.amounts
-      → MatchResult v (λ w. ◌≡◌ {A = Result ℕ PlanFault} (Err e) (Ok w)) (λ u. e ≡ Refused (refusal_of u) (37 * n)) → ps ≡ params (tasks_in k.records) → n ≡ length ps
+  pub train_refused : (v : Result ℕ Unfit) (e : PlanFault) (n : ℕ) → v ≡ walk g.amounts
+      → MatchResult v (λ w. ◌≡◌ {A = Result ℕ PlanFault} (Err e) (Ok w)) (λ u. e ≡ Refused (refusal_of u) (37 * n)) → n ≡ length (tasks_in k.records)
       → ◌≡◌ {A = Result ℕ PlanFault} (Err e) (judged xs)
-  train_refused (Ok w) e n ps v f p q = clash e w f
-  train_refused (Err u) e n ps v f p q =
+  train_refused (Ok w) e n v f q = clash e w f
+  train_refused (Err u) e n v f q =
       let m : 37 * n ≡ first_frame 0 k.records =
-      omega (arith, frame_place start 0 k.records (decoded_lawful xs k.records k.is), ap length p, length-map (tasks_in k.records) (λ t. t.content.params)) in
+      omega (arith, frame_place start 0 k.records (decoded_lawful xs k.records k.is)) in
       ap (λ (x : PlanFault). let j : Judged = Err x in j) (f ∙ ap (Refused (refusal_of u)) m) ∙ sym (walked (Err u) v)
 
   -- The train is accepted, and the tasks are entered.
-  module _ (w : ℕ) (yes : Ok w ≡ walk g.amounts) (ps : List TaskParams) (p : ps ≡ params (tasks_in k.records)) where
+  module _ (w : ℕ) (yes : Ok w ≡ walk g.amounts) where
+    abbrev ps : List TaskParams
+    ps = params (tasks_in k.records)
+
     -- What entering says of all the records.
     entry_says : Says g 0 k.records blank (first_refused g 0 [] ps)
     entry_says =
         subst (λ (ys : List TaskParams). Says g 0 k.records blank (first_refused g 0 ys ps)) (none_filled 64)
-        (subst (λ (ys : List TaskParams). Says g 0 k.records blank (first_refused g 0 (filled blank) ys)) (sym p)
-        (entering_says g start 0 k.records blank (decoded_lawful xs k.records k.is) refl (empty_blank 64)))
+        (entering_says g start 0 k.records blank (decoded_lawful xs k.records k.is) refl (empty_blank 64))
 
     entered_is : judged xs ≡ over_plan g (entered g 0 k.records blank)
     entered_is = walked (Ok w) yes ∙ ap (λ (hs : List FrameParams). over_plan (train_meaning hs) (entered (train_meaning hs) 0 k.records blank)) (sym k.frames)
 
     tasks_of_plan : (m : Channels) → filled m ≡ filled blank ++ params (tasks_in k.records) → filled m ≡ ps
-    tasks_of_plan m f = f ∙ ap (λ (ys : List TaskParams). ys ++ params (tasks_in k.records)) (none_filled 64) ∙ sym p
+    tasks_of_plan m f = f ∙ ap (λ (ys : List TaskParams). ys ++ params (tasks_in k.records)) (none_filled 64)
 
-    pub told_by_tasks : judged xs ≡ one_by_one g ps
+    pub told_by_tasks : judged xs ≡ one_by_one g (params (tasks_in k.records))
     told_by_tasks = entered_is ∙ go (first_refused g 0 [] ps) entry_says
       where
         go : (o : Option (Unfit × ℕ)) → Says g 0 k.records blank o → over_plan g (entered g 0 k.records blank) ≡ by_first g ps o
@@ -153,7 +154,7 @@ module _ (xs : List ℕ) (fs : List FrameParams) (k : Read xs fs) (fr : All Fram
         go (Some q) (m, e) = ap (over_plan g) e
 
     -- Without tasks it is the train's own verdict.
-    pub no_tasks_told : ps ≡ [] → ◌≡◌ {A = Result ℕ PlanFault} (Ok w) (judged xs)
+    pub no_tasks_told : (params (tasks_in k.records)) ≡ [] → ◌≡◌ {A = Result ℕ PlanFault} (Ok w) (judged xs)
     unfolding first_refused
     no_tasks_told e =
         ap (λ (o : Option ℕ). let j : Judged = Ok (busy_or_zero o) in j) (sym (yes_closes g.amounts lg.rules w yes) ∙ ap busy (sym (none_beside g)))
@@ -161,7 +162,7 @@ module _ (xs : List ℕ) (fs : List FrameParams) (k : Read xs fs) (fr : All Fram
         ∙ sym told_by_tasks
 
     -- Yes means that no job is ever late.
-    pub yes_holds : All TaskRanges ps → Accepted (beside (tasks_meaning ps) g).amounts → (b : ℕ) → ◌≡◌ {A = Result ℕ PlanFault} (Ok b) (judged xs) → YesMeans xs b
+    pub yes_holds : All TaskRanges (params (tasks_in k.records)) → Accepted (beside (tasks_meaning (params (tasks_in k.records))) g).amounts → (b : ℕ) → ◌≡◌ {A = Result ℕ PlanFault} (Ok b) (judged xs) → YesMeans xs b
     yes_holds r a b q =
         let none = none_refused g lg 0 [] ps r a in
         let s = subst (λ (o : Option (Unfit × ℕ)). Says g 0 k.records blank o) none entry_says in
@@ -182,7 +183,16 @@ module _ (xs : List ℕ) (fs : List FrameParams) (k : Read xs fs) (fr : All Fram
         }
 
     -- Without tasks the plan is accepted as the train is.
-    pub train_accepted : ps ≡ [] → Accepted (beside (tasks_meaning ps) g).amounts
+    pub train_accepted : (params (tasks_in k.records)) ≡ [] → Accepted (beside (tasks_meaning (params (tasks_in k.records))) g).amounts
     train_accepted e =
         subst (λ (ys : List TaskParams). Accepted (beside (tasks_meaning ys) g).amounts) (sym e)
         (subst Accepted (sym (none_beside g)) (accepted_ok g.amounts lg.rules w yes))
+
+    -- With tasks it is the verdict on them.
+    module _ (r : Result ℕ PlanFault) (says : (rs : List Rec) → decode xs ≡ Ok rs → r ≡ one_by_one g (params (tasks_in rs)))
+        (safe : (rs : List Rec) → decode xs ≡ Ok rs → (b : ℕ) → r ≡ Ok b → All TaskRanges (params (tasks_in rs)) × Accepted (beside (tasks_meaning (params (tasks_in rs))) g).amounts) where
+      pub tasks_told : r ≡ judged xs
+      tasks_told = says k.records k.is ∙ sym told_by_tasks
+
+      pub tasks_hold : (b : ℕ) → r ≡ Ok b → YesMeans xs b
+      tasks_hold b e = let a = safe k.records k.is b e in yes_holds a.0 a.1 b (sym e ∙ tasks_told)

@@ -23,17 +23,16 @@ fn add_frame(train: &mut RampTrain, bytes: &[u8; FRAME], at: usize) -> Result<()
 }
 
 /// Takes the frames of an image into a train in place of what it held, or refuses and leaves it as it was. The whole
-/// image is checked first.
+/// image is checked first, and after that nothing is refused.
 pub fn take_frames(train: &mut RampTrain, image: &[u8]) -> Result<(), RecordFault>
     ensures { (result, frames_of train.new) ≡ taken (decode image.now) (frames_of train.old) }
 {
     check(image)?;
-    let mut fresh = RampTrain::new();
+    train.clear();
     for part in Parts::new(image) {
         if let Part::Frame(bytes, at) = part? {
-            add_frame(&mut fresh, bytes, at)?;
+            add_frame(train, bytes, at)?;
         }
     }
-    *train = fresh;
     Ok(())
 }

@@ -5,4 +5,4 @@ use Rattle.image.proofs.tasks.add_tasks.Given as goal
 
 -- The tasks collected so far, with those of the records that are left, are those of the image.
 abbrev pub invariant-loop-part : goal.invariant-loop-part
-invariant-loop-part l = Collects l.image (tasks_of l.initial.tasks) (tasks_of l.tasks) (rest l.part-iterator)
+invariant-loop-part g l = Collects g.row.N l.image (tasks_of l.initial.tasks) (tasks_of l.tasks) (rest l.part-iterator)

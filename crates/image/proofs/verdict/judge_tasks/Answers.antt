@@ -1,5 +1,5 @@
 -- The verdict on tasks that are accepted together is their busy period, on others the first refusal.
-use Rattle.std.proofs.Common.{◌∙◌}
+use Rattle.std.proofs.Common.{◌∙◌, rules}
 use Rattle.theory.proofs.Verdicts.{accepted_ok}
 use Rattle.theory.proofs.Walk.{walk_is_look}
 use Rattle.loads.specs.Lists.{tasks_of}
@@ -8,11 +8,14 @@ use Rattle.loads.specs.ListRanges.{list_ranged}
 use Rattle.image.proofs.Judging.{together, laws_of_train, laws_beside}
 use Rattle.image.proofs.verdict.judge_tasks.Goals as goal
 
-pub first_refused-early-requires-clause-refused : goal.first_refused-early-requires-clause-refused
-first_refused-early-requires-clause-refused c = c.in-Err.ensures ∙ walk_is_look _ (laws_beside c.args.plan.now.first c.args.plan.now.second).rules
+pub first_refused-early-requires : goal.first_refused-early-requires
+first_refused-early-requires g c = (
+  search rules,
+  (c.requires.bounded, (c.requires.some, c.in-Err.ensures ∙ walk_is_look _ (laws_beside c.args.plan.now.first c.args.plan.now.second).rules)),
+)
 
 pub returns-in-Ok : goal.returns-in-Ok
-returns-in-Ok c =
+returns-in-Ok g c =
     let e = c.in-Ok.ensures in
     record {
       says = together (train_meaning (frames_of c.args.plan.now.second)) (laws_of_train c.args.plan.now.second) (tasks_of c.args.plan.now.first) (list_ranged c.args.plan.now.first) c.in-Ok.busy e;

@@ -24,41 +24,41 @@ use Rattle.plan.specs.Labels.{good_label}
 use Rattle.plan.specs.Ledger.{Ledger, plan, by_verdict, weighed, by_content, admitted, replaced, retired, if_ok, next, after}
 
 -- The label is good, and the verdict on the changed plan is yes.
-abbrev Passes : Meaning → Ledger → ℕ → Content → Unit {0} → Type 0
-Passes g l c k u = (good_label k.label ≡ true) × (weighed g l c k ≡ Ok u)
+abbrev pub Passes : Meaning → Ledger → ℕ → Content → ℕ → Type 0
+Passes g l c k w = (good_label k.label ≡ true) × (weighed g l c k ≡ Ok w)
 
 -- The checks of admit, and then those of replace, over what they look at: where they grant, the label is good and the
 -- verdict grants.
-in_empty : (good above : Bool) (held : Option Content) (r : Result (Unit {0}) Refusal) (u : Unit {0})
+in_empty : (good above : Bool) (held : Option Content) (r : Result ℕ Refusal) (u : ℕ)
     → cond good (cond above (Err NoChannel) (by_content held (λ _. Err ChannelFilled) r)) (Err BadLabel) ≡ Ok u → (good ≡ true) × (r ≡ Ok u)
 in_empty true false None r u q = (refl, q)
 in_empty true false (Some k) r u q = cc
 in_empty true true held r u q = cc
 in_empty false above held r u q = cc
 
-in_filled : (good above : Bool) (held : Option Content) (r : Result (Unit {0}) Refusal) (u : Unit {0})
+in_filled : (good above : Bool) (held : Option Content) (r : Result ℕ Refusal) (u : ℕ)
     → cond good (cond above (Err NoChannel) (by_content held (λ _. r) (Err ChannelEmpty))) (Err BadLabel) ≡ Ok u → (good ≡ true) × (r ≡ Ok u)
 in_filled true false (Some k) r u q = (refl, q)
 in_filled true false None r u q = cc
 in_filled true true held r u q = cc
 in_filled false above held r u q = cc
 
-admitted_ok : (g : Meaning) (l : Ledger) (c : ℕ) (k : Content) (u : Unit {0}) → admitted g l c k ≡ Ok u → Passes g l c k u
+admitted_ok : (g : Meaning) (l : Ledger) (c : ℕ) (k : Content) (u : ℕ) → admitted g l c k ≡ Ok u → Passes g l c k u
 admitted_ok g l c k u q = in_empty (good_label k.label) (ltb 63 c) (get_or l c None) (weighed g l c k) u q
 
-replaced_ok : (g : Meaning) (l : Ledger) (c : ℕ) (k : Content) (u : Unit {0}) → replaced g l c k ≡ Ok u → Passes g l c k u
+replaced_ok : (g : Meaning) (l : Ledger) (c : ℕ) (k : Content) (u : ℕ) → replaced g l c k ≡ Ok u → Passes g l c k u
 replaced_ok g l c k u q = in_filled (good_label k.label) (ltb 63 c) (get_or l c None) (weighed g l c k) u q
 
 -- P is kept by both changes that a call can make: a channel filled, with a good label and a yes, and a channel emptied.
 pub record Keeps (g : Meaning) (P : Ledger → Type 0) : Type 0 where
-  pub fills : (l : Ledger) (c : ℕ) (e : Entry) (u : Unit {0}) → P l → good_label (content e).label ≡ true → weighed g l c (content e) ≡ Ok u → P (set l c (Some (content e)))
+  pub fills : (l : Ledger) (c : ℕ) (e : Entry) (u : ℕ) → P l → good_label (content e).label ≡ true → weighed g l c (content e) ≡ Ok u → P (set l c (Some (content e)))
   pub empties : (l : Ledger) (c : ℕ) → P l → P (set l c None)
 
 module _ (g : Meaning) (P : Ledger → Type 0) (k : Keeps g P) where
   -- P holds of what a call leaves, changed or not.
-  either : (r : Result (Unit {0}) Refusal) (new old : Ledger) → ((u : Unit {0}) → r ≡ Ok u → P new) → P old → P (if_ok r new old)
-  either (Ok u) new old f h = f u refl
-  either (Err x) new old f h = h
+  either : {X : Type 0} (r : Result X Refusal) (new old : Ledger) → ((x : X) → r ≡ Ok x → P new) → P old → P (if_ok r new old)
+  either (Ok x) new old f h = f x refl
+  either (Err e) new old f h = h
 
   next_keeps : (l : Ledger) (call : Call) → P l → P (next g l call)
   next_keeps l (Admit c e) h =
@@ -86,7 +86,7 @@ after_ranged g ks = after_keeps g Ranged (ranged_keeps g) blank ks (blank_ranged
 pub plan_laws : (g : Meaning) → Laws g → (l : Ledger) → Ranged l → Laws (plan g l)
 plan_laws g h l r = beside_laws (table l) g (tasks_laws (filled l) r) h
 
-verdict_ok : (r : Result ℕ Unfit) (u : Unit {0}) → by_verdict r ≡ Ok u → (w : ℕ) × (r ≡ Ok w)
+verdict_ok : (r : Result ℕ Unfit) (u : ℕ) → by_verdict r ≡ Ok u → (w : ℕ) × (r ≡ Ok w)
 verdict_ok (Ok w) u e = (w, refl)
 verdict_ok (Err x) u e = cc
 
@@ -108,7 +108,7 @@ module _ (g : Meaning) (lg : Laws g) where
   Fits l = Accepted (plan g l).amounts
 
   -- The verdict on the changed plan lets only an accepted plan in.
-  weighed_fits : (l : Ledger) (c : ℕ) (k : Content) (u : Unit {0}) → Ranged (set l c (Some k)) → weighed g l c k ≡ Ok u → Fits (set l c (Some k))
+  weighed_fits : (l : Ledger) (c : ℕ) (k : Content) (u : ℕ) → Ranged (set l c (Some k)) → weighed g l c k ≡ Ok u → Fits (set l c (Some k))
   weighed_fits l c k u r q =
       let m = (plan g (set l c (Some k))).amounts in
       let h = (plan_laws g lg (set l c (Some k)) r).rules in

@@ -33,13 +33,14 @@ guest p = p.loads.second
 abbrev pub plan : Meaning → Ledger → Meaning
 plan g l = beside (table l) g
 
--- Granted by a yes, and else refused.
-abbrev pub by_verdict : Result ℕ Unfit → Result (Unit {0}) Refusal
-by_verdict (Ok w) = Ok tt
+-- Granted by a yes, with its busy period, and else refused.
+abbrev pub by_verdict : Result ℕ Unfit → Result ℕ Refusal
+by_verdict (Ok w) = Ok w
 by_verdict (Err u) = Err (refusal_of u)
 
--- The verdict on the plan as it would stand, with `k` in channel c: granted, 10, or 11 with mark and claim.
-abbrev pub weighed : Meaning → Ledger → ℕ → Content → Result (Unit {0}) Refusal
+-- The verdict on the plan as it would stand, with `k` in channel c: its busy period where it is granted, or 10, or 11
+-- with mark and claim.
+abbrev pub weighed : Meaning → Ledger → ℕ → Content → Result ℕ Refusal
 weighed g l c k = by_verdict (look (plan g (slice_set l c (Some k))).amounts)
 
 -- What a call answers at a filled channel, and at an empty one.
@@ -52,15 +53,15 @@ abbrev pub at_channel : {X : Type 0} → Ledger → ℕ → (Content → Result 
 at_channel l c filled empty = cond (nat_lt 63 c) (Err NoChannel) (by_content (slice_index_or l c None) filled empty)
 
 -- 15 for a bad label, before anything else.
-abbrev pub labelled : Content → Result (Unit {0}) Refusal → Result (Unit {0}) Refusal
+abbrev pub labelled : {X : Type 0} → Content → Result X Refusal → Result X Refusal
 labelled k r = cond (good_label k.label) r (Err BadLabel)
 
 -- Admit: 15, 7, 8, then the verdict.
-abbrev pub admitted : Meaning → Ledger → ℕ → Content → Result (Unit {0}) Refusal
+abbrev pub admitted : Meaning → Ledger → ℕ → Content → Result ℕ Refusal
 admitted g l c k = labelled k (at_channel l c (λ old. Err ChannelFilled) (weighed g l c k))
 
 -- Replace: 15, 7, 9, then the verdict on the plan without the old task.
-abbrev pub replaced : Meaning → Ledger → ℕ → Content → Result (Unit {0}) Refusal
+abbrev pub replaced : Meaning → Ledger → ℕ → Content → Result ℕ Refusal
 replaced g l c k = labelled k (at_channel l c (λ old. weighed g l c k) (Err ChannelEmpty))
 
 -- Retire: 7, 9.
@@ -86,9 +87,9 @@ reply (Ok done.Retired) = vacated
 reply (Ok (done.Found e)) = found (content e)
 reply (Err r) = refused r
 
--- The reply to a call that hands nothing back: `good` where it is not refused.
-abbrev pub done_or_refused : Reply → Result (Unit {0}) Refusal → Reply
-done_or_refused good (Ok u) = good
+-- The reply that names only whether a call was refused: `good` where it was not.
+abbrev pub done_or_refused : {X : Type 0} → Reply → Result X Refusal → Reply
+done_or_refused good (Ok x) = good
 done_or_refused good (Err r) = refused r
 
 -- The reply to a reading.
@@ -109,8 +110,8 @@ answer_to g l (Retire c) = done_or_refused vacated (retired l c)
 answer_to g l (Read c) = found_or_refused (reading l c)
 
 -- `new` where the call is granted, `old` where it is refused.
-abbrev pub if_ok : Result (Unit {0}) Refusal → Ledger → Ledger → Ledger
-if_ok (Ok u) new old = new
+abbrev pub if_ok : {X : Type 0} → Result X Refusal → Ledger → Ledger → Ledger
+if_ok (Ok x) new old = new
 if_ok (Err r) new old = old
 
 -- The ledger after a call: refusals and readings change nothing.

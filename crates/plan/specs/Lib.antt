@@ -1,3 +1,5 @@
 pub mod Labels
 pub mod Ledger
+pub mod Admissions
+pub mod Together
 pub mod Promise

@@ -36,5 +36,6 @@ impl<G: Load> Load for Plan<G> {
     }
 }
 
+pub mod admissions;
 pub mod calls;
 pub mod promise;

@@ -1,4 +1,4 @@
-ghost use Rattle.std.specs.Prelude.{◌≡◌};
+ghost use Rattle.std.specs.Prelude.{◌≡◌, None, slice_set};
 ghost use Rattle.loads.specs.Channels.{blank, channels, held_content, slot_content, read_content, held_at, put_at, bears as bears_label, found_from};
 
 use super::{Slot, Table};
@@ -49,6 +49,15 @@ impl Table<Slot> {
         }
         self.slot(usize::from(channel)).put(held);
         Ok(())
+    }
+
+    /// Empties a channel. Above 63 there is none, and nothing changes.
+    pub fn clear(&mut self, channel: u8)
+        ensures { channels self.new ≡ slice_set (channels self.old) channel None }
+    {
+        if channel <= LAST {
+            self.slot(usize::from(channel)).put(None);
+        }
     }
 
     /// The lowest filled channel with that label.

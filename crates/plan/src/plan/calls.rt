@@ -30,9 +30,9 @@ impl<G: Load> Plan<G> {
         }
     }
 
-    /// Puts the entry into the channel if the plan is accepted with it there, and else leaves the plan as it
-    /// was: with `old` in the channel.
-    fn change(&mut self, channel: u8, entry: Entry, old: Option<Entry>) -> Result<(), Refusal>
+    /// Puts the entry into the channel if the plan is accepted with it there, and gives the busy period then; else leaves
+    /// the plan as it was: with `old` in the channel.
+    fn change(&mut self, channel: u8, entry: Entry, old: Option<Entry>) -> Result<u64, Refusal>
         requires channel { channel ≤ 63 }
         requires old { held_content old ≡ slice_index_or (ledger self.old) channel None }
         ensures says { result ≡ weighed (G.Load.meaning (guest self.old)) (ledger self.old) channel (content entry) }
@@ -40,30 +40,28 @@ impl<G: Load> Plan<G> {
         ensures guest { guest self.new ≡ guest self.old }
     {
         self.loads.first.put(channel, Some(entry))?;
-        if let Err(unfit) = judge(self) {
-            self.loads.first.put(channel, old)?;
-            return Err(unfit.into());
+        match judge(self) {
+            Ok(busy) => Ok(busy),
+            Err(unfit) => {
+                self.loads.first.put(channel, old)?;
+                Err(unfit.into())
+            }
         }
-        Ok(())
     }
 
-    /// Puts label and task into an empty channel.
-    pub fn admit(&mut self, channel: u8, entry: Entry) -> Result<(), Refusal>
+    /// Puts label and task into an empty channel, and gives the busy period of the plan then, in ticks.
+    pub fn admit(&mut self, channel: u8, entry: Entry) -> Result<u64, Refusal>
         ensures says { result ≡ admitted (G.Load.meaning (guest self.old)) (ledger self.old) channel (content entry) }
         ensures channels { ledger self.new ≡ next (G.Load.meaning (guest self.old)) (ledger self.old) (admit_call channel entry) }
         ensures guest { guest self.new ≡ guest self.old }
     {
-        if !is_label(&entry.label) {
-            return Err(Refusal::BadLabel);
-        }
-        if self.loads.first.get(channel)?.is_some() {
-            return Err(Refusal::ChannelFilled);
-        }
+        self.check_vacant(channel, &entry)?;
         self.change(channel, entry, None)
     }
 
-    /// Puts label and task into a filled channel, in place of what it holds.
-    pub fn replace(&mut self, channel: u8, entry: Entry) -> Result<(), Refusal>
+    /// Puts label and task into a filled channel, in place of what it holds, and gives the busy period of the plan then, in
+    /// ticks.
+    pub fn replace(&mut self, channel: u8, entry: Entry) -> Result<u64, Refusal>
         ensures says { result ≡ replaced (G.Load.meaning (guest self.old)) (ledger self.old) channel (content entry) }
         ensures channels { ledger self.new ≡ next (G.Load.meaning (guest self.old)) (ledger self.old) (replace_call channel entry) }
         ensures guest { guest self.new ≡ guest self.old }
@@ -106,8 +104,8 @@ impl<G: Load> Plan<G> {
         ensures guest { guest self.new ≡ guest self.old }
     {
         match *call {
-            Call::Admit(channel, entry) => self.admit(channel, entry).map(|()| Done::Granted),
-            Call::Replace(channel, entry) => self.replace(channel, entry).map(|()| Done::Granted),
+            Call::Admit(channel, entry) => self.admit(channel, entry).map(|_| Done::Granted),
+            Call::Replace(channel, entry) => self.replace(channel, entry).map(|_| Done::Granted),
             Call::Retire(channel) => self.retire(channel).map(|()| Done::Retired),
             Call::Read(channel) => self.read(channel).map(Done::Found),
         }

@@ -6,15 +6,15 @@ use Rattle.plan.specs.Ledger.{guest}
 use Rattle.plan.proofs.Weigh.{judged, restored}
 use Rattle.plan.proofs.plan.Plan.change.Goals as goal
 
-pub returns-in-Err-clause-says : goal.returns-in-Err-clause-says
-returns-in-Err-clause-says g c =
+pub returns-in_ok-put-in-Err-clause-says : goal.returns-in_ok-put-in-Err-clause-says
+returns-in_ok-put-in-Err-clause-says g c =
     let h = beside_laws _ _ (table_laws c.put.new.self) (g.met.G.Load.lawful (guest c.args.self.now)) in
     ap Err c.into.ensures ∙ judged _ _ _ c.requires.channel _ _ _ _ c.put.ensures h c.in-Err.ensures
 
-pub returns-in-Err-clause-channels : goal.returns-in-Err-clause-channels
-returns-in-Err-clause-channels g c = restored _ _ _ c.requires.channel _ _ _ _ _ c.put.ensures c.requires.old c.put-in-Err.ensures
+pub returns-in_ok-put-in-Err-clause-channels : goal.returns-in_ok-put-in-Err-clause-channels
+returns-in_ok-put-in-Err-clause-channels g c = restored _ _ _ c.requires.channel _ _ _ _ _ c.put.ensures c.requires.old c.put-in-Err.ensures
 
-pub returns-clause-says : goal.returns-clause-says
-returns-clause-says g c =
+pub returns-in-Ok-clause-says : goal.returns-in-Ok-clause-says
+returns-in-Ok-clause-says g c =
     let h = beside_laws _ _ (table_laws c.put.new.self) (g.met.G.Load.lawful (guest c.args.self.now)) in
-    judged _ _ _ c.requires.channel _ _ _ _ c.put.ensures h c.in_default.ensures
+    judged _ _ _ c.requires.channel _ _ _ _ c.put.ensures h c.in-Ok.ensures

@@ -1,0 +1,113 @@
+ghost use Rattle.std.specs.Prelude.{◌≡◌, ℕ, ◌≤◌, List, [], map, length, take, Ok, Err, None};
+ghost use Rattle.loads.specs.Channels.{blank, content};
+ghost use Rattle.plan.specs.declared.call.Call.{Call as a_call};
+ghost use Rattle.plan.specs.Ledger.{ledger, guest, after, answers_to};
+ghost use Rattle.plan.specs.Admissions.{placed, in_turn, tried, admits};
+ghost use Rattle.plan.specs.Promise.{Kept};
+ghost use Rattle.plan.specs.Together.{vacant, put_all, EachVacant, PutIn, Together};
+
+use super::Plan;
+use crate::label::is_label;
+use loads::entry::Entry;
+use loads::refusal::Refusal;
+use theory::load::Load;
+
+impl<G: Load> Plan<G> {
+    /// The checks of `admit` before its verdict: 15, 7, 8.
+    pub(super) fn check_vacant(&self, channel: u8, entry: &Entry) -> Result<(), Refusal>
+        ensures { result ≡ vacant (ledger self.now) channel (content entry.now) }
+    {
+        if !is_label(&entry.label) {
+            return Err(Refusal::BadLabel);
+        }
+        if self.loads.first.get(channel)?.is_some() {
+            return Err(Refusal::ChannelFilled);
+        }
+        Ok(())
+    }
+
+    /// Puts entries into their channels without a verdict, up to the first that 15, 7 or 8 keeps out: its place, and why.
+    fn put_in(&mut self, entries: &[(u8, Entry)]) -> Result<(), (usize, Refusal)>
+        ensures says { PutIn (ledger self.old) (map placed entries.now) result (ledger self.new) }
+        ensures guest { guest self.new ≡ guest self.old }
+    {
+        for (n, (channel, entry)) in entries.iter().enumerate() {
+            self.check_vacant(*channel, entry).map_err(|r| (n, r))?;
+            self.loads
+                .first
+                .put(*channel, Some(*entry))
+                .map_err(|r| (n, r))?;
+        }
+        Ok(())
+    }
+
+    /// Takes out again what was put in.
+    fn take_out(&mut self, entries: &[(u8, Entry)])
+        ensures says { (l : List _) → EachVacant l (map placed entries.now) → ledger self.old ≡ put_all l (map placed entries.now) → ledger self.new ≡ l }
+        ensures guest { guest self.new ≡ guest self.old }
+    {
+        for n in (0..entries.len()).rev() {
+            self.loads.first.clear(entries[n].0);
+        }
+    }
+
+    /// Admits entries at once: puts all but the last in and admits that one, which judges them all. Where that or a check
+    /// on one of them refuses, none stays: the place of that one, and why it is refused where all before it are granted.
+    fn admit_together(&mut self, entries: &[(u8, Entry)]) -> Result<u64, (usize, Refusal)>
+        requires some { 1 ≤ length entries.now }
+        ensures says { Together (G.Load.meaning (guest self.old)) (ledger self.old) (map placed entries.now) result (ledger self.new) }
+        ensures guest { guest self.new ≡ guest self.old }
+    {
+        let last = entries.len() - 1;
+        let (channel, entry) = entries[last];
+        let answer = match self.put_in(&entries[..last]) {
+            Ok(()) => self.admit(channel, entry).map_err(|r| (last, r)),
+            Err(refused) => Err(refused),
+        };
+        if let Err((place, _)) = answer {
+            self.take_out(&entries[..place]);
+        }
+        answer
+    }
+
+    /// Admits several entries, each to its channel, as one after another would be admitted up to the first that is refused:
+    /// the busy period of the plan with all of them, in ticks (none where there are no entries), or the place of the first
+    /// that is refused, counted from 0, and why. The entries before it stay in the plan.
+    ///
+    /// They are put in and judged all at once. Where that refuses they are taken out, and so are tried again, by halves;
+    /// entries that are accepted together are accepted one after another too.
+    pub fn admit_all(&mut self, entries: &[(u8, Entry)]) -> Result<Option<u64>, (usize, Refusal)>
+        ensures says { (result, ledger self.new) ≡ in_turn (G.Load.meaning (guest self.old)) 0 None (map placed entries.now) (ledger self.old) }
+        ensures calls { ledger self.new ≡ after (G.Load.meaning (guest self.old)) (ledger self.old) (admits (take (tried (length entries.now) result) entries.now)) }
+        ensures guest { guest self.new ≡ guest self.old }
+        ensures kept { (before : List a_call) → ledger self.old ≡ after (G.Load.meaning (guest self.old)) blank before
+            → Kept (G.Load.meaning (guest self.old)) before (admits (take (tried (length entries.now) result) entries.now))
+                (answers_to (G.Load.meaning (guest self.old)) (ledger self.old) (admits (take (tried (length entries.now) result) entries.now))) (ledger self.new) }
+    {
+        let mut kept = 0;
+        let mut busy = None;
+        // The entry at `until` is refused as `why` says, if all before it are granted; there is none at the end.
+        let mut until = entries.len();
+        let mut why = None;
+        while kept < until {
+            let end = match why {
+                None => until,
+                Some(_) => kept + (until - kept).div_ceil(2),
+            };
+            match self.admit_together(&entries[kept..end]) {
+                Ok(w) => {
+                    kept = end;
+                    busy = Some(w);
+                }
+                Err((place, refusal)) => {
+                    until = kept + place;
+                    why = Some(refusal);
+                }
+            }
+        }
+        match why {
+            None => Ok(busy),
+            Some(refusal) => Err((until, refusal)),
+        }
+    }
+}

@@ -1,3 +1,2 @@
-pub mod MapErr
 pub mod Judging
 pub mod Writing

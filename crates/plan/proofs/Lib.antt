@@ -1,5 +1,10 @@
 pub mod LabelBytes
+pub mod MapErr
 pub mod Weigh
+pub mod PutTogether
+pub mod InTurn
+pub mod AtOnce
+pub mod Halving
 pub mod Reach
 pub mod PromiseHolds
 pub mod Turns

@@ -43,7 +43,7 @@ in_filled true false None r u q = cc
 in_filled true true held r u q = cc
 in_filled false above held r u q = cc
 
-admitted_ok : (g : Meaning) (l : Ledger) (c : ℕ) (k : Content) (u : ℕ) → admitted g l c k ≡ Ok u → Passes g l c k u
+pub admitted_ok : (g : Meaning) (l : Ledger) (c : ℕ) (k : Content) (u : ℕ) → admitted g l c k ≡ Ok u → Passes g l c k u
 admitted_ok g l c k u q = in_empty (good_label k.label) (ltb 63 c) (get_or l c None) (weighed g l c k) u q
 
 replaced_ok : (g : Meaning) (l : Ledger) (c : ℕ) (k : Content) (u : ℕ) → replaced g l c k ≡ Ok u → Passes g l c k u
@@ -86,7 +86,7 @@ after_ranged g ks = after_keeps g Ranged (ranged_keeps g) blank ks (blank_ranged
 pub plan_laws : (g : Meaning) → Laws g → (l : Ledger) → Ranged l → Laws (plan g l)
 plan_laws g h l r = beside_laws (table l) g (tasks_laws (filled l) r) h
 
-verdict_ok : (r : Result ℕ Unfit) (u : ℕ) → by_verdict r ≡ Ok u → (w : ℕ) × (r ≡ Ok w)
+pub verdict_ok : (r : Result ℕ Unfit) (u : ℕ) → by_verdict r ≡ Ok u → (w : ℕ) × (r ≡ Ok w)
 verdict_ok (Ok w) u e = (w, refl)
 verdict_ok (Err x) u e = cc
 
@@ -104,11 +104,11 @@ set_blank (suc n) (suc c) = ap (λ (l : Ledger). None ∷ l) (set_blank n c)
 
 module _ (g : Meaning) (lg : Laws g) where
   -- The plan with these channels is accepted.
-  abbrev Fits : Ledger → Type 0
+  abbrev pub Fits : Ledger → Type 0
   Fits l = Accepted (plan g l).amounts
 
   -- The verdict on the changed plan lets only an accepted plan in.
-  weighed_fits : (l : Ledger) (c : ℕ) (k : Content) (u : ℕ) → Ranged (set l c (Some k)) → weighed g l c k ≡ Ok u → Fits (set l c (Some k))
+  pub weighed_fits : (l : Ledger) (c : ℕ) (k : Content) (u : ℕ) → Ranged (set l c (Some k)) → weighed g l c k ≡ Ok u → Fits (set l c (Some k))
   weighed_fits l c k u r q =
       let m = (plan g (set l c (Some k))).amounts in
       let h = (plan_laws g lg (set l c (Some k)) r).rules in
@@ -116,7 +116,7 @@ module _ (g : Meaning) (lg : Laws g) where
       accepted_ok m h v.0 (sym (walk_is_look m h ∙ v.1))
 
   -- Removing a task only lowers the amounts.
-  retired_fits : (l : Ledger) (c : ℕ) → Ranged l → Fits l → Fits (set l c None)
+  pub retired_fits : (l : Ledger) (c : ℕ) → Ranged l → Fits l → Fits (set l c None)
   retired_fits l c r h =
       accepted_lower (plan g (set l c None)).amounts (plan g l).amounts (plan_laws g lg (set l c None) (set_ranged l c None tt r)).rules (plan_laws g lg l r).rules (beside_lower (table (set l c None)) (table l) g (fewer l c)) h
 

@@ -74,10 +74,13 @@ kept_more g h before ks l e =
       never_late = λ a. subst (λ (x : Ledger). NeverLate (plan g x)) (sym s) ((promise g h).never_late a (before ++ ks));
     }
 
+-- The same from channels that earlier calls have left.
+pub kept_calls : (g : Meaning) → Laws g → (start : Ledger) (ks : List Call) (l : Ledger) → l ≡ after g start ks → (before : List Call) → start ≡ after g blank before → Kept g before ks (answers_to g start ks) l
+kept_calls g h start ks l s before e =
+    subst (λ (x : Ledger). Kept g before ks (answers_to g x ks) l) (sym e) (kept_more g h before ks l (s ∙ ap (λ (x : Ledger). after g x ks) e))
+
 -- What holds after n calls keeps the promise, where earlier calls have led to `start`.
 pub kept : (g : Meaning) → Laws g → (start : Ledger) (cs : List Call) (old : List Answer) (n : ℕ) (l : Ledger) (rs : List Answer) → SoFar g start cs old n l rs
     → (before : List Call) → start ≡ after g blank before → Kept g before (take n cs) (map reply (take n rs)) l
 kept g h start cs old n l rs so before e =
-    let a : map reply (take n rs) ≡ answers_to g (after g blank before) (take n cs) = so.answered ∙ ap (λ x. answers_to g x (take n cs)) e in
-    let s : l ≡ after g (after g blank before) (take n cs) = so.stands ∙ ap (λ x. after g x (take n cs)) e in
-    subst (λ (xs : List Reply). Kept g before (take n cs) xs l) (sym a) (kept_more g h before (take n cs) l s)
+    subst (λ (xs : List Reply). Kept g before (take n cs) xs l) (sym so.answered) (kept_calls g h start (take n cs) l so.stands before e)

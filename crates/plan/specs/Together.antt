@@ -33,8 +33,16 @@ abbrev pub PutIn : Ledger → List Placed → Result (Unit {0}) (ℕ × Refusal)
 PutIn l xs (Ok u) m = EachVacant l xs × (m ≡ put_all l xs)
 PutIn l xs (Err p) m = EachVacant l (take p.0 xs) × (m ≡ put_all l (take p.0 xs)) × ((x : Placed) × At xs p.0 x × (vacant m x.channel x.content ≡ Err p.1))
 
--- All are admitted, and the last gives the busy period; or the ledger is as before, and the task at place p.0 is refused
--- after those before it.
+-- All are admitted one after another, and `w` is the answer to the last.
+abbrev pub AllGranted : Meaning → Ledger → List Placed → ℕ → Ledger → Type 0
+AllGranted g l xs w m = (m ≡ put_all l xs) × ((n : ℕ) (o : Option ℕ) (ys : List Placed) → in_turn g n o (xs ++ ys) l ≡ in_turn g (n + length xs) (Some w) ys m)
+
+-- All are admitted; or those before the task at place p.0 are in, which is refused.
+abbrev pub Tried : Meaning → Ledger → List Placed → Result ℕ (ℕ × Refusal) → Ledger → Type 0
+Tried g l xs (Ok w) m = AllGranted g l xs w m
+Tried g l xs (Err p) m = EachVacant l (take p.0 xs) × (m ≡ put_all l (take p.0 xs)) × ((x : Placed) × At xs p.0 x × (admitted g m x.channel x.content ≡ Err p.1))
+
+-- All are admitted; or the ledger is as before, and the task at place p.0 is refused after those before it.
 abbrev pub Together : Meaning → Ledger → List Placed → Result ℕ (ℕ × Refusal) → Ledger → Type 0
-Together g l xs (Ok w) m = (m ≡ put_all l xs) × ((n : ℕ) (o : Option ℕ) (ys : List Placed) → in_turn g n o (xs ++ ys) l ≡ in_turn g (n + length xs) (Some w) ys m)
+Together g l xs (Ok w) m = AllGranted g l xs w m
 Together g l xs (Err p) m = (m ≡ l) × ((x : Placed) × At xs p.0 x × (admitted g (put_all l (take p.0 xs)) x.channel x.content ≡ Err p.1))

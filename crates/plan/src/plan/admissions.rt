@@ -1,10 +1,10 @@
-ghost use Rattle.std.specs.Prelude.{◌≡◌, ℕ, ◌≤◌, List, [], map, length, take, Ok, Err, None};
+ghost use Rattle.std.specs.Prelude.{◌≡◌, ◌≤◌, List, map, length, take, Some, None, slice_set};
 ghost use Rattle.loads.specs.Channels.{blank, content};
 ghost use Rattle.plan.specs.declared.call.Call.{Call as a_call};
-ghost use Rattle.plan.specs.Ledger.{ledger, guest, after, answers_to};
+ghost use Rattle.plan.specs.Ledger.{Ledger, ledger, guest, if_ok, after, answers_to};
 ghost use Rattle.plan.specs.Admissions.{placed, in_turn, tried, admits};
 ghost use Rattle.plan.specs.Promise.{Kept};
-ghost use Rattle.plan.specs.Together.{vacant, put_all, EachVacant, PutIn, Together};
+ghost use Rattle.plan.specs.Together.{vacant, put_all, EachVacant, PutIn, Tried, Together};
 
 use super::Plan;
 use crate::label::is_label;
@@ -26,24 +26,30 @@ impl<G: Load> Plan<G> {
         Ok(())
     }
 
+    /// Puts an entry into a channel without a verdict, unless 15, 7 or 8 keeps it out.
+    fn put_one(&mut self, channel: u8, entry: Entry) -> Result<(), Refusal>
+        ensures says { result ≡ vacant (ledger self.old) channel (content entry) }
+        ensures channels { ledger self.new ≡ if_ok result (slice_set (ledger self.old) channel (Some (content entry))) (ledger self.old) }
+        ensures guest { guest self.new ≡ guest self.old }
+    {
+        self.check_vacant(channel, &entry)?;
+        self.loads.first.put(channel, Some(entry))
+    }
+
     /// Puts entries into their channels without a verdict, up to the first that 15, 7 or 8 keeps out: its place, and why.
     fn put_in(&mut self, entries: &[(u8, Entry)]) -> Result<(), (usize, Refusal)>
         ensures says { PutIn (ledger self.old) (map placed entries.now) result (ledger self.new) }
         ensures guest { guest self.new ≡ guest self.old }
     {
         for (n, (channel, entry)) in entries.iter().enumerate() {
-            self.check_vacant(*channel, entry).map_err(|r| (n, r))?;
-            self.loads
-                .first
-                .put(*channel, Some(*entry))
-                .map_err(|r| (n, r))?;
+            self.put_one(*channel, *entry).map_err(|r| (n, r))?;
         }
         Ok(())
     }
 
     /// Takes out again what was put in.
     fn take_out(&mut self, entries: &[(u8, Entry)])
-        ensures says { (l : List _) → EachVacant l (map placed entries.now) → ledger self.old ≡ put_all l (map placed entries.now) → ledger self.new ≡ l }
+        ensures says { (l : Ledger) → EachVacant l (map placed entries.now) → ledger self.old ≡ put_all l (map placed entries.now) → ledger self.new ≡ l }
         ensures guest { guest self.new ≡ guest self.old }
     {
         for n in (0..entries.len()).rev() {
@@ -51,19 +57,26 @@ impl<G: Load> Plan<G> {
         }
     }
 
-    /// Admits entries at once: puts all but the last in and admits that one, which judges them all. Where that or a check
-    /// on one of them refuses, none stays: the place of that one, and why it is refused where all before it are granted.
+    /// Puts all but the last in and admits that one, which judges them all. Where one is refused, its place and why it is
+    /// refused where all before it are granted; those before it are in then.
+    fn admit_last(&mut self, entries: &[(u8, Entry)]) -> Result<u64, (usize, Refusal)>
+        requires some { 1 ≤ length entries.now }
+        ensures says { Tried (G.Load.meaning (guest self.old)) (ledger self.old) (map placed entries.now) result (ledger self.new) }
+        ensures guest { guest self.new ≡ guest self.old }
+    {
+        let last = entries.len() - 1;
+        self.put_in(&entries[..last])?;
+        let (channel, entry) = entries[last];
+        self.admit(channel, entry).map_err(|r| (last, r))
+    }
+
+    /// Admits entries at once, or none of them.
     fn admit_together(&mut self, entries: &[(u8, Entry)]) -> Result<u64, (usize, Refusal)>
         requires some { 1 ≤ length entries.now }
         ensures says { Together (G.Load.meaning (guest self.old)) (ledger self.old) (map placed entries.now) result (ledger self.new) }
         ensures guest { guest self.new ≡ guest self.old }
     {
-        let last = entries.len() - 1;
-        let (channel, entry) = entries[last];
-        let answer = match self.put_in(&entries[..last]) {
-            Ok(()) => self.admit(channel, entry).map_err(|r| (last, r)),
-            Err(refused) => Err(refused),
-        };
+        let answer = self.admit_last(entries);
         if let Err((place, _)) = answer {
             self.take_out(&entries[..place]);
         }

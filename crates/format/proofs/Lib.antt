@@ -4,12 +4,9 @@ pub mod RecordBytes
 pub mod Front
 pub mod RoundTrip
 pub mod Items
-pub mod Counts
-pub mod TakingFrames
+pub mod Passing
+pub mod Reading
 pub mod Rising
-pub mod EnteringTasks
-pub mod Prefixes
-pub mod CollectingTasks
 pub mod ReadsAgain
 pub mod WritesAgain
 pub mod Places

@@ -105,7 +105,7 @@ some_behind at xs h = go (drop 2 (drop at xs)) (simp length-drop (omega arith))
     go (y ∷ ys) k = refl
 
 -- The records in the items, each checked after those before it, or the first fault.
-abbrev by_check : Rec → (Before → AllRead) → Result Before RecordFault → AllRead
+abbrev pub by_check : Rec → (Before → AllRead) → Result Before RecordFault → AllRead
 by_check r f x = elim x [ Err e ↦ Err e | Ok c ↦ with_rest r (f c) ]
 
 abbrev pub checks : Before → List Item → AllRead

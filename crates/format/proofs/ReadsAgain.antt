@@ -73,7 +73,7 @@ unfolding in_turn
 entered_ok g n w o t ts l e =
     ap (λ (r : Result ℕ Refusal). let x : InTurn = elim r [ Err f ↦ (Err (n, f), l) | Ok v ↦ in_turn g (suc n) (Some v) ts (set l t.channel (Some t.content)) ] in x) e
 
-module _ (g : Meaning) (lg : Laws g) (l : Channels) (w : Writable l) (m : length l ≡ 64) (r : Ranged l) (a : Accepted (plan g l).amounts) where
+module _ (g : Meaning) (lg : Laws g) (l : Channels) (w : Writable l) (sixty-four : length l ≡ 64) (r : Ranged l) (a : Accepted (plan g l).amounts) where
   -- As many empty channels.
   none : Channels → Channels
   none rest = replicate (length rest) None
@@ -118,7 +118,7 @@ module _ (g : Meaning) (lg : Laws g) (l : Channels) (w : Writable l) (m : length
 
   refilled : filled_by (in_turn g 0 None (tasks 0 l) blank) ≡ (Ok tt, l)
   unfolding none
-  refilled = ap (λ (i : ℕ). filled_by (in_turn g 0 None (tasks 0 l) (replicate i None))) (sym m) ∙ refill 0 0 None [] l refl refl
+  refilled = ap (λ (i : ℕ). filled_by (in_turn g 0 None (tasks 0 l) (replicate i None))) (sym sixty-four) ∙ refill 0 0 None [] l refl refl
 
 tasks_blank : (n c : ℕ) → tasks c (replicate n None) ≡ []
 tasks_blank zero c = refl

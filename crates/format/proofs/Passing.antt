@@ -23,8 +23,8 @@ in_range at None p = refl
 in_range at (Some e) p = cc
 
 -- A record that passes has no fault, and what has come before the next one is told by it.
-pub passes : (b c : Before) (at : ℕ) (r : Rec) → Ok c ≡ passed b at r → (fault b at r ≡ None) × (c ≡ after b r)
-passes b c at r e = go (fault b at r) e
+pub passed_is : (b c : Before) (at : ℕ) (r : Rec) → Ok c ≡ passed b at r → (fault b at r ≡ None) × (c ≡ after b r)
+passed_is b c at r e = go (fault b at r) e
   where
     go : (o : Option RecordFault) → ◌≡◌ {A = Result Before RecordFault} (Ok c) (elim o [ Some f ↦ Err f | None ↦ Ok (after b r) ]) → (o ≡ None) × (c ≡ after b r)
     go None q = (refl, cc)

@@ -1,8 +1,10 @@
 -- One pass over the parts of an image checks its records and collects its tasks and its frames.
-use Rattle.std.proofs.Common.{◌≡◌, ℕ, suc, ◌<◌, ◌≤◌, List, [], ◌∷◌, ◌++◌, map, length, Some, None, Ok, Err, Option, Result, sym, refl, ap, ◌∙◌, append_assoc, arith, length-append}
+use Rattle.std.proofs.Common.{◌≡◌, ℕ, suc, ◌<◌, ◌≤◌, List, [], ◌∷◌, ◌++◌, length, Some, None, Ok, Err, Result, sym, refl, ap, ◌∙◌, append_assoc, arith, length-append}
 use Rattle.std.proofs.lemmas.List.{append-nil}
+use Rattle.theory.specs.Meaning.{Meaning}
 use Rattle.loads.specs.Params.{FrameParams}
-use Rattle.plan.specs.Admissions.{Placed}
+use Rattle.loads.specs.Channels.{Channels}
+use Rattle.plan.specs.Admissions.{Placed, in_turn}
 use Rattle.format.specs.declared.before.Before.{Before}
 use Rattle.format.specs.declared.fault.ImageFault.{ImageFault}
 use Rattle.format.specs.declared.fault.RecordFault.{RecordFault}
@@ -10,9 +12,10 @@ use Rattle.format.specs.declared.fault.RecordFault.TheVariants.{Image}
 use Rattle.format.specs.Records.{Rec, task_rec, frame_rec, in_order, start, after, task_in, frame_in}
 use Rattle.format.specs.Decode.{decode, passed, Piece, task_piece, frame_piece, rec_in, with_rest, tasks_in, frames_in}
 use Rattle.format.specs.Parts.{offset, pieces_from}
+use Rattle.format.specs.Fills.{Taken, taken, filled_by, filled}
 use Rattle.format.proofs.Front.{AllRead}
 use Rattle.format.proofs.Items.{Item, by_check, checks, decode_checks}
-use Rattle.format.proofs.Passing.{passes, Passes, task_passes, frame_passes}
+use Rattle.format.proofs.Passing.{passed_is, Passes, task_passes, frame_passes}
 
 -- Records that were read, before what the reading of the others answers.
 abbrev pub joined : List Rec → AllRead → AllRead
@@ -54,63 +57,65 @@ reading_start xs = record {
   rest = decode_checks xs ∙ sym (joined_none (checks start (pieces_from xs (Some 0))));
 }
 
-module _ (xs : List ℕ) (b : Before) (ts : List Placed) (fs : List FrameParams) (is : List Item) where
-  -- A record that passes its checks comes behind those that were read.
-  behind : (c : Before) (p : Piece) → Reading xs b ts fs (Ok p ∷ is) → Ok c ≡ passed b (offset p) (rec_in p) → decode xs ≡ joined (in_order ts fs ++ (rec_in p ∷ [])) (checks c is)
-  behind c p k e =
-      k.rest
-      ∙ ap (λ (x : Result Before RecordFault). joined (in_order ts fs) (by_check (rec_in p) (λ d. checks d is) x)) (sym e)
-      ∙ joined_more (in_order ts fs) (rec_in p) (checks c is)
+module _ {xs : List ℕ} {b : Before} {ts : List Placed} {fs : List FrameParams} where
+  -- What is left after a record that passes its checks, or its fault.
+  onward : (p : Piece) (is : List Item) (x : Result Before RecordFault) → Reading xs b ts fs (Ok p ∷ is) → x ≡ passed b (offset p) (rec_in p)
+      → decode xs ≡ joined (in_order ts fs) (by_check (rec_in p) (λ c. checks c is) x)
+  onward p is x k e = k.rest ∙ ap (λ (y : Result Before RecordFault). joined (in_order ts fs) (by_check (rec_in p) (λ c. checks c is) y)) (sym e)
 
-  -- A task passes its checks: there was room for it, and it is read.
-  module _ (bytes : List ℕ) (at : ℕ) (c : Before) (k : Reading xs b ts fs (Ok (task_piece bytes at) ∷ is)) (e : Ok c ≡ passed b at (task_rec (task_in bytes))) where
-    task_fits : Passes b (task_in bytes)
-    task_fits = task_passes b at (task_in bytes) (passes b c at (task_rec (task_in bytes)) e).0
+  -- A task that passes its checks finds room, and is read.
+  module _ (bytes : List ℕ) (at : ℕ) (is : List Item) (c : Before) (k : Reading xs b ts fs (Ok (task_piece bytes at) ∷ is)) (e : Ok c ≡ passed b at (task_rec (task_in bytes))) where
+    good_task : Passes b (task_in bytes)
+    good_task = task_passes b at (task_in bytes) (passed_is b c at (task_rec (task_in bytes)) e).0
 
     pub room_for_task : length ts < 64
-    room_for_task = omega (arith, task_fits.rising, task_fits.channel, k.tasks)
+    room_for_task = omega (arith, good_task.rising, good_task.channel, k.tasks)
 
     pub task_read : Reading xs c (ts ++ (task_in bytes ∷ [])) fs is
     task_read =
-        let w = task_fits in
-        let d : c ≡ after b (task_rec (task_in bytes)) = (passes b c at (task_rec (task_in bytes)) e).1 in
+        let w = good_task in
+        let d : c ≡ after b (task_rec (task_in bytes)) = (passed_is b c at (task_rec (task_in bytes)) e).1 in
         let n : c.least ≡ suc (task_in bytes).channel = ap (λ (x : Before). x.least) d in
         record {
           frames = ap (λ (x : Before). x.frames) d ∙ k.frames;
           tasks = omega (arith, n, w.rising, k.tasks, length-append ts (task_in bytes ∷ []));
           least = omega (arith, n, w.channel);
-          rest = behind c (task_piece bytes at) k e
+          rest = onward (task_piece bytes at) is (Ok c) k e
+              ∙ joined_more (in_order ts fs) (task_rec (task_in bytes)) (checks c is)
               ∙ ap (λ (rs : List Rec). joined rs (checks c is)) (task_last ts fs (task_in bytes) (sym k.frames ∙ w.first));
         }
 
-  -- A frame passes its checks.
-  module _ (bytes : List ℕ) (at : ℕ) (c : Before) (k : Reading xs b ts fs (Ok (frame_piece bytes at) ∷ is)) (e : Ok c ≡ passed b at (frame_rec (frame_in bytes))) where
+  -- So does a frame.
+  module _ (bytes : List ℕ) (at : ℕ) (is : List Item) (c : Before) (k : Reading xs b ts fs (Ok (frame_piece bytes at) ∷ is)) (e : Ok c ≡ passed b at (frame_rec (frame_in bytes))) where
     pub room_for_frame : length fs < 16
-    room_for_frame = omega (arith, (frame_passes b at (frame_in bytes) (passes b c at (frame_rec (frame_in bytes)) e).0).0, k.frames)
+    room_for_frame = omega (arith, (frame_passes b at (frame_in bytes) (passed_is b c at (frame_rec (frame_in bytes)) e).0).0, k.frames)
 
     pub frame_read : Reading xs c ts (fs ++ (frame_in bytes ∷ [])) is
     frame_read =
-        let d : c ≡ after b (frame_rec (frame_in bytes)) = (passes b c at (frame_rec (frame_in bytes)) e).1 in
+        let d : c ≡ after b (frame_rec (frame_in bytes)) = (passed_is b c at (frame_rec (frame_in bytes)) e).1 in
         let n : c.least ≡ b.least = ap (λ (x : Before). x.least) d in
         let m : c.frames ≡ suc b.frames = ap (λ (x : Before). x.frames) d in
         record {
           frames = omega (arith, m, k.frames, length-append fs (frame_in bytes ∷ []));
           tasks = omega (arith, n, k.tasks);
           least = omega (arith, n, k.least);
-          rest = behind c (frame_piece bytes at) k e ∙ ap (λ (rs : List Rec). joined rs (checks c is)) (frame_last ts fs (frame_in bytes));
+          rest = onward (frame_piece bytes at) is (Ok c) k e
+              ∙ joined_more (in_order ts fs) (frame_rec (frame_in bytes)) (checks c is)
+              ∙ ap (λ (rs : List Rec). joined rs (checks c is)) (frame_last ts fs (frame_in bytes));
         }
 
   -- The first fault, of a record or of the bytes, is that of the image.
-  pub fault_found : (p : Piece) (e : RecordFault) → Reading xs b ts fs (Ok p ∷ is) → Err e ≡ passed b (offset p) (rec_in p) → decode xs ≡ Err e
-  fault_found p e k q = k.rest ∙ ap (λ (x : Result Before RecordFault). joined (in_order ts fs) (by_check (rec_in p) (λ d. checks d is) x)) (sym q)
+  pub fault_found : {p : Piece} {is : List Item} {e : RecordFault} → Reading xs b ts fs (Ok p ∷ is) → Err e ≡ passed b (offset p) (rec_in p) → decode xs ≡ Err e
+  fault_found {p} {is} {e} k q = onward p is (Err e) k q
 
-  pub fault_item : (e : ImageFault) → Reading xs b ts fs (Err e ∷ is) → decode xs ≡ Err (Image e)
-  fault_item e k = k.rest
+  pub fault_item : {e : ImageFault} {is : List Item} → Reading xs b ts fs (Err e ∷ is) → decode xs ≡ Err (Image e)
+  fault_item k = k.rest
 
--- At the end all records were read, and their tasks and frames are those collected.
-pub all_read : (xs : List ℕ) (b : Before) (ts : List Placed) (fs : List FrameParams) → Reading xs b ts fs [] → decode xs ≡ Ok (in_order ts fs)
-all_read xs b ts fs k = k.rest ∙ ap (λ (rs : List Rec). let x : AllRead = Ok rs in x) (append-nil (in_order ts fs))
+  -- At the end all records were read.
+  pub all_read : Reading xs b ts fs [] → decode xs ≡ Ok (in_order ts fs)
+  all_read k = k.rest ∙ ap (λ (rs : List Rec). let x : AllRead = Ok rs in x) (append-nil (in_order ts fs))
 
+-- The tasks and the frames among records in their order.
 pub tasks_in_order : (ts : List Placed) (fs : List FrameParams) → tasks_in (in_order ts fs) ≡ ts
 tasks_in_order [] [] = refl
 tasks_in_order [] (f ∷ fs) = tasks_in_order [] fs
@@ -120,3 +125,11 @@ pub frames_in_order : (ts : List Placed) (fs : List FrameParams) → frames_in (
 frames_in_order [] [] = refl
 frames_in_order [] (f ∷ fs) = ap (λ (gs : List FrameParams). f ∷ gs) (frames_in_order [] fs)
 frames_in_order (t ∷ ts) fs = frames_in_order ts fs
+
+-- So train and plan get what was collected.
+module _ (xs : List ℕ) (ts : List Placed) (fs : List FrameParams) (d : decode xs ≡ Ok (in_order ts fs)) where
+  pub taken_is : (held : List FrameParams) → taken (decode xs) held ≡ (Ok tt, fs)
+  taken_is held = ap (λ (x : AllRead). taken x held) d ∙ ap (λ (gs : List FrameParams). let x : Taken = (Ok tt, gs) in x) (frames_in_order ts fs)
+
+  pub filled_is : (g : Meaning) (l : Channels) → filled g (decode xs) l ≡ filled_by (in_turn g 0 None ts l)
+  filled_is g l = ap (λ (x : AllRead). filled g x l) d ∙ ap (λ (us : List Placed). filled_by (in_turn g 0 None us l)) (tasks_in_order ts fs)

@@ -1,5 +1,5 @@
 -- A plan that calls can reach comes back from its own image.
-use Rattle.std.proofs.Common.{◌≡◌, ℕ, zero, suc, ◌+◌, ◌≤◌, true, false, ltb, ◌⊎◌, List, [], ◌∷◌, ◌++◌, length, get_or, set, replicate, Some, None, Ok, Err, Option, Result, sym, refl, ap, ◌∙◌, subst, inl, inr, append_assoc, arith, length-append, length-set}
+use Rattle.std.proofs.Common.{◌≡◌, ℕ, zero, suc, ◌≤◌, true, false, ltb, ◌⊎◌, List, [], ◌∷◌, ◌++◌, length, get_or, set, replicate, Some, None, Ok, Err, Option, Result, sym, refl, ap, ◌∙◌, subst, inl, inr, append_assoc, arith, length-append, length-set}
 use lib.ListN.{length-replicate}
 use Rattle.std.proofs.lemmas.Bool.{le-ltb}
 use Rattle.std.proofs.lemmas.List.{get_or_at}
@@ -22,9 +22,9 @@ use Rattle.plan.proofs.Reach.{Keeps, after_keeps, after_ranged, plan_laws, after
 use Rattle.plan.specs.Admissions.{Placed, InTurn, in_turn}
 use Rattle.format.specs.Decode.{decode}
 use Rattle.format.specs.Encode.{placed_in, tasks, contents, encode}
-use Rattle.format.specs.Fills.{Filled, taken, filled_by, filled}
+use Rattle.format.specs.Fills.{Filled, filled_by}
 use Rattle.format.specs.Statements.{WritableChannel, Writable, ReadsAgain}
-use Rattle.format.proofs.Reading.{tasks_in_order, frames_in_order}
+use Rattle.format.proofs.Reading.{taken_is, filled_is}
 use Rattle.format.proofs.RoundTrip.{reads_back}
 
 -- Every ledger that calls can reach can be written.
@@ -142,8 +142,7 @@ reads_again g lg before l fs e h r =
     (reads_back (after g blank before) fs (omega (arith, after_length g before)) (after_writable g before) h r) in
     record {
       records = d;
-      frames = λ held. ap (λ x. taken x held) d ∙ ap (λ (gs : List FrameParams). (Ok tt, gs)) (frames_in_order (tasks 0 l) fs);
-      channels = ap (λ x. filled g x blank) d
-          ∙ ap (λ (ts : List Placed). filled_by (in_turn g 0 None ts blank)) (tasks_in_order (tasks 0 l) fs)
+      frames = taken_is (encode l fs) (tasks 0 l) fs d;
+      channels = filled_is (encode l fs) (tasks 0 l) fs d g blank
           ∙ subst (λ (x : Channels). filled_by (in_turn g 0 None (tasks 0 x) blank) ≡ (Ok tt, x)) (sym e) (reached_back g lg before);
     }

@@ -1,15 +1,11 @@
 -- Records that pass one after another: tasks by rising channel, so that the channels from the next one on are empty.
-use Rattle.std.proofs.Common.{◌≡◌, ℕ, zero, suc, ◌+◌, ◌-◌, ◌<◌, ◌≤◌, Bool, true, false, cond, ◌&&◌, eqb, leb, List, [], ◌∷◌, ◌++◌, length, drop, set, replicate, Some, None, Ok, Err, sym, refl, ap, ◌∙◌, subst, ap₂, add-zero, add-suc, suc-add, arith}
+use Rattle.std.proofs.Common.{◌≡◌, ℕ, zero, suc, ◌+◌, ◌-◌, ◌<◌, ◌≤◌, List, [], ◌∷◌, ◌++◌, length, drop, set, replicate, Some, None, Ok, Err, sym, refl, ap, ◌∙◌, subst, ap₂, add-zero, add-suc, suc-add, arith}
 use Rattle.std.proofs.lemmas.List.{drop-drop, drop-set-lt}
-use Rattle.std.proofs.lemmas.Bool.{leb-true, eqb-true}
-use Rattle.loads.specs.declared.refusal.Refusal.TheVariants.{NoChannel, BadLabel, OutOfOrder}
-use Rattle.loads.specs.Making.{task_refusal}
 use Rattle.loads.specs.Channels.{Content, Channels}
-use Rattle.plan.specs.Labels.{good_label}
 use Rattle.plan.specs.Admissions.{Placed}
 use Rattle.format.specs.declared.before.Before.{Before}
 use Rattle.format.specs.declared.fault.RecordFault.TheVariants as in_record
-use Rattle.format.specs.Records.{Rec, task_rec, frame_rec, start, after, fault, out_of_range}
+use Rattle.format.specs.Records.{Rec, task_rec, frame_rec, start, after, fault}
 use Rattle.format.specs.Decode.{decode, tasks_in, rec_in}
 use Rattle.format.specs.Encode.{placed_in, tasks}
 use Rattle.format.specs.Parts.{offset, pieces_from}
@@ -30,14 +26,6 @@ lawful b (Ok p ∷ is) rs e = let m = first_passes b p is rs e in subst (Lawful 
 -- The records of an image that was read pass one after another.
 pub decoded_lawful : (xs : List ℕ) (rs : List Rec) → decode xs ≡ Ok rs → Lawful start rs
 decoded_lawful xs rs e = lawful start (pieces_from xs (Some 0)) rs (sym (decode_checks xs) ∙ e)
-
--- The channels of the tasks rise up to 63, so there are at most 64 of them.
-pub few_tasks : (b : Before) (rs : List Rec) → b.least ≤ 64 → Lawful b rs → b.least + length (tasks_in rs) ≤ 64
-few_tasks b [] h k = omega arith
-few_tasks b (task_rec t ∷ rs) h k =
-    let w = task_passes b k.0.0 t k.0.1 in
-    omega (arith, w.rising, w.channel, few_tasks (after b (task_rec t)) rs (omega (arith, w.channel)) k.1)
-few_tasks b (frame_rec f ∷ rs) h k = few_tasks (after b (frame_rec f)) rs h k.1
 
 -- After a frame there are no tasks.
 pub no_tasks : (b : Before) (rs : List Rec) → 0 < b.frames → Lawful b rs → tasks_in rs ≡ []

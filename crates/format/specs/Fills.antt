@@ -1,5 +1,5 @@
 -- What the reading calls answer, and what train and plan hold then.
-use Rattle.std.specs.Prelude.{◌≡◌, ℕ, ◌*◌, List, None, Ok, Err, Result}
+use Rattle.std.specs.Prelude.{ℕ, ◌*◌, List, None, Ok, Err, Result}
 use Rattle.theory.specs.Meaning.{Meaning}
 use Rattle.loads.specs.declared.refusal.Refusal.{Refusal}
 use Rattle.loads.specs.declared.entry.Entry.{Entry}

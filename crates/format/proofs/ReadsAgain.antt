@@ -18,8 +18,8 @@ use Rattle.loads.specs.Ranged.{Ranged, cut_ranged, task_ranged}
 use Rattle.plan.specs.declared.call.Call.{Call}
 use Rattle.plan.specs.Labels.{good_label}
 use Rattle.plan.specs.Ledger.{plan, by_verdict, weighed, admitted, after}
-use Rattle.plan.proofs.Reach.{Keeps, after_keeps, after_ranged, plan_laws, after_stands}
 use Rattle.plan.specs.Admissions.{Placed, InTurn, in_turn}
+use Rattle.plan.proofs.Reach.{Keeps, after_keeps, after_ranged, plan_laws, after_stands}
 use Rattle.format.specs.Decode.{decode}
 use Rattle.format.specs.Encode.{placed_in, tasks, contents, encode}
 use Rattle.format.specs.Fills.{Filled, filled_by}

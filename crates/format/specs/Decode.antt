@@ -1,12 +1,12 @@
 -- The image, read: the parts that stand one after another, and the records or the first fault.
 use Rattle.std.specs.Prelude.{ℕ, zero, suc, ◌+◌, Bool, cond, ◌&&◌, List, [], ◌∷◌, length, take, drop, Some, None, Ok, Err, Option, Result, ◌==◌, nat_le, slice_index}
 use Rattle.loads.specs.Params.{FrameParams}
+use Rattle.plan.specs.Admissions.{Placed}
 use Rattle.format.specs.declared.fault.ImageFault.{ImageFault}
 use Rattle.format.specs.declared.fault.ImageFault.TheVariants.{UnknownMark, Cut, Trailing}
 use Rattle.format.specs.declared.fault.RecordFault.{RecordFault}
 use Rattle.format.specs.declared.fault.RecordFault.TheVariants.{Image}
 use Rattle.format.specs.declared.before.Before.{Before}
-use Rattle.plan.specs.Admissions.{Placed}
 use Rattle.format.specs.Records.{Rec, task_rec, frame_rec, size, task_in, frame_in, start, after, fault}
 
 -- The bytes `xs` begin with the mark of the two bytes `a` and `b`.

@@ -3,9 +3,9 @@ use Rattle.std.specs.Prelude.{◌≡◌, ℕ, List, [], ◌∷◌, take, replica
 use Rattle.loads.specs.declared.refusal.Refusal.{Refusal}
 use Rattle.loads.specs.Refusals.{number}
 use Rattle.loads.specs.Params.{FrameParams, task, frame}
+use Rattle.plan.specs.Admissions.{Placed}
 use Rattle.format.specs.declared.fault.RecordFault.{RecordFault}
 use Rattle.format.specs.Faults.{record_fault}
-use Rattle.plan.specs.Admissions.{Placed}
 use Rattle.format.specs.Records.{Rec, task_rec, frame_rec}
 use Rattle.format.specs.Decode.{decode}
 use Rattle.format.specs.Encode.{image}

@@ -7,8 +7,8 @@ use Rattle.loads.specs.Params.{TaskParams, FrameParams}
 use Rattle.loads.specs.Channels.{Content, Channels, blank, content}
 use Rattle.plan.specs.declared.call.Call.{Call}
 use Rattle.plan.specs.Ledger.{after, answers_to}
-use Rattle.plan.specs.Admissions.{InTurn, in_turn}
 use Rattle.plan.specs.Promise.{Kept}
+use Rattle.plan.specs.Admissions.{InTurn, in_turn}
 use Rattle.format.specs.declared.fault.RecordFault.{RecordFault}
 use Rattle.format.specs.declared.fault.RecordFault.TheVariants as in_record
 use Rattle.format.specs.declared.fault.PlanFault.{PlanFault}

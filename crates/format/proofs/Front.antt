@@ -2,6 +2,7 @@
 use Rattle.std.proofs.Common.{◌≡◌, ℕ, suc, ◌+◌, ◌≤◌, Bool, true, false, cond, eqb, leb, List, [], ◌∷◌, ◌++◌, length, take, drop, Some, None, Ok, Err, Option, Result, sym, refl, ap, ◌∙◌, subst, ap₂, arith, length-append}
 use Rattle.std.proofs.lemmas.List.{take_at}
 use Rattle.std.proofs.lemmas.Bool.{le-leb, leb-true, and_parts, eqb-true, cond-true}
+use Rattle.plan.specs.Admissions.{Placed}
 use Rattle.format.specs.declared.fault.ImageFault.{ImageFault}
 use Rattle.format.specs.declared.fault.ImageFault.TheVariants.{UnknownMark, Cut}
 use Rattle.format.specs.declared.fault.RecordFault.{RecordFault}
@@ -9,7 +10,7 @@ use Rattle.format.specs.declared.fault.RecordFault.TheVariants.{Image}
 use Rattle.format.specs.declared.before.Before.{Before}
 use Rattle.format.specs.Bytes.{Bytes}
 use Rattle.loads.specs.Params.{FrameParams}
-use Rattle.format.specs.Records.{Rec, task_rec, frame_rec, TaskRec, rec_bytes, task_bytes, frame_bytes, size}
+use Rattle.format.specs.Records.{Rec, task_rec, frame_rec, rec_bytes, task_bytes, frame_bytes, size}
 use Rattle.format.specs.Decode.{marked, whole, part, ended, with_rest, passed, records, Piece, task_piece, frame_piece, rec_in}
 use Rattle.format.proofs.RecordBytes.{task_written, frame_written, frame_back, TaskFits, FrameFits, Fits, length_rec, task_own, task_in_take, frame_in_take}
 
@@ -34,7 +35,7 @@ pub rec_of_piece : (at : ℕ) (r : Rec) → Fits r → rec_in (piece_of at r) �
 rec_of_piece at (task_rec t) h = ap task_rec (task_own t h)
 rec_of_piece at (frame_rec f) h = ap frame_rec (frame_back f [] h)
 
-part_task : (at : ℕ) (t : TaskRec) (xs : List ℕ) → TaskFits t → part at (task_bytes t ++ xs) ≡ Ok (Some (task_piece (task_bytes t) at))
+part_task : (at : ℕ) (t : Placed) (xs : List ℕ) → TaskFits t → part at (task_bytes t ++ xs) ≡ Ok (Some (task_piece (task_bytes t) at))
 unfolding part
 part_task at t xs h =
     let ys : List ℕ = task_bytes t ++ xs in
@@ -98,7 +99,7 @@ part_cases at xs P pt pf pn o p = go (leb 2 (length xs)) (marked 0x54 0x4B xs) (
 pub part_stands : (at : ℕ) (xs : List ℕ) (o : Option Piece) → Bytes xs → part at xs ≡ Ok o → Stands xs o
 part_stands at xs o h p =
     part_cases at xs (Stands xs)
-    (λ l m. ap (λ (t : TaskRec). task_bytes t ++ drop 37 xs) (task_in_take xs) ∙ task_written xs h l ∙ m)
+    (λ l m. ap (λ (t : Placed). task_bytes t ++ drop 37 xs) (task_in_take xs) ∙ task_written xs h l ∙ m)
     (λ l m. ap (λ (f : FrameParams). frame_bytes f ++ drop 14 xs) (frame_in_take xs) ∙ frame_written xs h l ∙ m)
     (λ l m. m)
     o p

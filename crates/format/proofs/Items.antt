@@ -69,26 +69,6 @@ items_from xs at =
     go (Ok None) = refl
     go (Ok (Some p)) = ap (λ (ys : List ℕ). Ok p ∷ pieces (length xs) (at + size (rec_in p)) ys) (drop-drop (size (rec_in p)) at xs)
 
--- The parts stand one after another.
-abbrev pub Consecutive : ℕ → List Item → Type 0
-Consecutive at [] = Unit {0}
-Consecutive at (Err e ∷ is) = Unit {0}
-Consecutive at (Ok p ∷ is) = (offset p ≡ at) × Consecutive (at + size (rec_in p)) is
-
-pub all_consecutive : (n at : ℕ) (xs : List ℕ) → Consecutive at (pieces n at xs)
-unfolding pieces
-all_consecutive zero at xs = tt
-all_consecutive (suc n) at xs = go (part at xs) refl (all_consecutive n)
-  where
-    at_last : (ys : List ℕ) → Consecutive at (behind (at + 2) ys)
-    at_last [] = tt
-    at_last (y ∷ ys) = tt
-
-    go : (x : Read) → part at xs ≡ x → ((i : ℕ) (ys : List ℕ) → Consecutive i (pieces n i ys)) → Consecutive at (turn n at xs x)
-    go (Err e) q ih = tt
-    go (Ok None) q ih = at_last (drop 2 xs)
-    go (Ok (Some p)) q ih = ((within at xs (Some p) q).0, ih (at + size (rec_in p)) (drop (size (rec_in p)) xs))
-
 -- Nothing behind the end mark, or something.
 pub nothing_behind : (at : ℕ) (xs : List ℕ) → length xs ≤ at + 2 → behind (at + 2) (drop 2 (drop at xs)) ≡ []
 nothing_behind at xs h = go (drop 2 (drop at xs)) (simp length-drop (omega arith))
@@ -105,7 +85,7 @@ some_behind at xs h = go (drop 2 (drop at xs)) (simp length-drop (omega arith))
     go (y ∷ ys) k = refl
 
 -- The records in the items, each checked after those before it, or the first fault.
-abbrev by_check : Rec → (Before → AllRead) → Result Before RecordFault → AllRead
+abbrev pub by_check : Rec → (Before → AllRead) → Result Before RecordFault → AllRead
 by_check r f x = elim x [ Err e ↦ Err e | Ok c ↦ with_rest r (f c) ]
 
 abbrev pub checks : Before → List Item → AllRead
@@ -134,14 +114,6 @@ records_checks (suc n) b at xs = go (part at xs) refl (records_checks n)
 pub decode_checks : (xs : List ℕ) → decode xs ≡ checks start (pieces_from xs (Some 0))
 unfolding decode
 decode_checks xs = records_checks (length xs) start 0 xs
-
--- Where the check refuses nothing, the records were read.
-pub was_ok : (xs : List ℕ) → Ok tt ≡ outcome (decode xs) → (rs : List Rec) × (decode xs ≡ Ok rs) × (checks start (pieces_from xs (Some 0)) ≡ Ok rs)
-was_ok xs p = let w = go (decode xs) p in (w.0, w.1, sym (decode_checks xs) ∙ w.1)
-  where
-    go : (x : AllRead) → Ok tt ≡ outcome x → (rs : List Rec) × (x ≡ Ok rs)
-    go (Ok rs) q = (rs, refl)
-    go (Err e) q = clash e tt (sym q)
 
 -- After a record that passes, the check goes on with the items after it.
 pub goes_on : (b c : Before) (p : Piece) (is : List Item) → Ok c ≡ passed b (offset p) (rec_in p) → outcome (checks b (Ok p ∷ is)) ≡ outcome (checks c is)

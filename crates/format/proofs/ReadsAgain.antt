@@ -1,5 +1,5 @@
 -- A plan that calls can reach comes back from its own image.
-use Rattle.std.proofs.Common.{◌≡◌, ℕ, zero, suc, ◌+◌, ◌≤◌, true, false, ltb, ◌⊎◌, List, [], ◌∷◌, ◌++◌, map, length, get_or, set, replicate, Some, None, Ok, Option, sym, refl, ap, ◌∙◌, subst, inl, inr, append_assoc, arith, length-append, length-set}
+use Rattle.std.proofs.Common.{◌≡◌, ℕ, zero, suc, ◌≤◌, true, false, ltb, ◌⊎◌, List, [], ◌∷◌, ◌++◌, length, get_or, set, replicate, Some, None, Ok, Err, Option, Result, sym, refl, ap, ◌∙◌, subst, inl, inr, append_assoc, arith, length-append, length-set}
 use lib.ListN.{length-replicate}
 use Rattle.std.proofs.lemmas.Bool.{le-ltb}
 use Rattle.std.proofs.lemmas.List.{get_or_at}
@@ -10,6 +10,7 @@ use Rattle.theory.specs.Verdict.{look, Accepted}
 use Rattle.theory.proofs.Verdicts.{accepted_yes}
 use Rattle.theory.proofs.Lower.{accepted_lower}
 use Rattle.theory.proofs.BesideLaws.{beside_lower}
+use Rattle.loads.specs.declared.refusal.Refusal.{Refusal}
 use Rattle.loads.specs.Params.{FrameParams, FrameRanges}
 use Rattle.loads.specs.Channels.{Content, Channels, table, blank, content}
 use Rattle.loads.proofs.Fewer.{cut_lower}
@@ -17,13 +18,13 @@ use Rattle.loads.specs.Ranged.{Ranged, cut_ranged, task_ranged}
 use Rattle.plan.specs.declared.call.Call.{Call}
 use Rattle.plan.specs.Labels.{good_label}
 use Rattle.plan.specs.Ledger.{plan, by_verdict, weighed, admitted, after}
+use Rattle.plan.specs.Admissions.{Placed, InTurn, in_turn}
 use Rattle.plan.proofs.Reach.{Keeps, after_keeps, after_ranged, plan_laws, after_stands}
-use Rattle.format.specs.Records.{TaskRec, task_rec, frame_rec}
-use Rattle.format.specs.Decode.{frames_in, decode}
+use Rattle.format.specs.Decode.{decode}
 use Rattle.format.specs.Encode.{placed_in, tasks, contents, encode}
-use Rattle.format.specs.Fills.{Filled, taken, entered, filled}
+use Rattle.format.specs.Fills.{Filled, filled_by}
 use Rattle.format.specs.Statements.{WritableChannel, Writable, ReadsAgain}
-use Rattle.format.proofs.Prefixes.{entered_ok}
+use Rattle.format.proofs.Reading.{taken_is, filled_is}
 use Rattle.format.proofs.RoundTrip.{reads_back}
 
 -- Every ledger that calls can reach can be written.
@@ -65,13 +66,14 @@ writable_at : (pre : Channels) (x : Option Content) (ys : Channels) → Writable
 writable_at [] x ys h = h.0
 writable_at (p ∷ pre) x ys h = writable_at pre x ys h.1
 
--- Frames leave the ledger as it is.
-entered_frames : (g : Meaning) (at : ℕ) (fs : List FrameParams) (l : Channels) → entered g at (map frame_rec fs) l ≡ (Ok tt, l)
-unfolding entered
-entered_frames g at [] l = refl
-entered_frames g at (f ∷ fs) l = entered_frames g (at + 14) fs l
+-- A task that is granted is entered, and then the others.
+entered_ok : (g : Meaning) (n w : ℕ) (o : Option ℕ) (t : Placed) (ts : List Placed) (l : Channels) → admitted g l t.channel t.content ≡ Ok w
+    → in_turn g n o (t ∷ ts) l ≡ in_turn g (suc n) (Some w) ts (set l t.channel (Some t.content))
+unfolding in_turn
+entered_ok g n w o t ts l e =
+    ap (λ (r : Result ℕ Refusal). let x : InTurn = elim r [ Err f ↦ (Err (n, f), l) | Ok v ↦ in_turn g (suc n) (Some v) ts (set l t.channel (Some t.content)) ] in x) e
 
-module _ (g : Meaning) (lg : Laws g) (l : Channels) (w : Writable l) (n : length l ≡ 64) (r : Ranged l) (a : Accepted (plan g l).amounts) (fs : List FrameParams) where
+module _ (g : Meaning) (lg : Laws g) (l : Channels) (w : Writable l) (sixty-four : length l ≡ 64) (r : Ranged l) (a : Accepted (plan g l).amounts) where
   -- As many empty channels.
   none : Channels → Channels
   none rest = replicate (length rest) None
@@ -87,7 +89,7 @@ module _ (g : Meaning) (lg : Laws g) (l : Channels) (w : Writable l) (n : length
       accepted_yes (plan g (pre ++ replicate (length rest) None)).amounts x (accepted_lower (plan g (pre ++ replicate (length rest) None)).amounts (plan g (pre ++ rest)).amounts x s low b)
 
   -- The next task is admitted.
-  admits : (c : ℕ) (pre rest : Channels) (k : Content) → pre ++ (Some k ∷ rest) ≡ l → length pre ≡ c → admitted g (pre ++ (None ∷ none rest)) c k ≡ Ok tt
+  admits : (c : ℕ) (pre rest : Channels) (k : Content) → pre ++ (Some k ∷ rest) ≡ l → length pre ≡ c → (v : ℕ) × (admitted g (pre ++ (None ∷ none rest)) c k ≡ Ok v)
   unfolding none
   admits c pre rest k e q =
       let full : (pre ++ (Some k ∷ [])) ++ rest ≡ l = append_assoc pre (Some k ∷ []) rest ∙ e in
@@ -96,46 +98,41 @@ module _ (g : Meaning) (lg : Laws g) (l : Channels) (w : Writable l) (n : length
       let b : ltb 63 c ≡ false = le-ltb 63 c (omega (arith, ap length e, m)) in
       let o : get_or (pre ++ (None ∷ replicate (length rest) None)) c None ≡ None = get_or_at pre None (replicate (length rest) None) None c q in
       let y : good_label k.label ≡ true = (writable_at pre (Some k) rest (subst Writable (sym e) w)).label in
-      let z : weighed g (pre ++ (None ∷ replicate (length rest) None)) c k ≡ Ok tt =
+      let z : weighed g (pre ++ (None ∷ replicate (length rest) None)) c k ≡ Ok v.0 =
       ap (λ (x : Channels). by_verdict (look (plan g x).amounts)) (set_at pre c None (Some k) (replicate (length rest) None) q ∙ sym (append_assoc pre (Some k ∷ []) (replicate (length rest) None)))
       ∙ ap by_verdict v.1 in
-      rw (y, b, o) z
+      (v.0, rw (y, b, o) z)
 
   -- With the first tasks back in their channels, the other tasks are admitted too.
-  refill : (c at : ℕ) (pre rest : Channels) → pre ++ rest ≡ l → length pre ≡ c → entered g at (map task_rec (tasks c rest) ++ map frame_rec fs) (pre ++ none rest) ≡ (Ok tt, l)
-  unfolding none
-  refill c at pre [] e q = entered_frames g at fs (pre ++ []) ∙ ap (λ (x : Channels). let d : Filled = (Ok tt, x) in d) e
-  refill c at pre (None ∷ rest) e q =
-      ap (entered g at (map task_rec (tasks (suc c) rest) ++ map frame_rec fs)) (sym (append_assoc pre (None ∷ []) (replicate (length rest) None)))
-      ∙ refill (suc c) at (pre ++ (None ∷ [])) rest (append_assoc pre (None ∷ []) rest ∙ e) (length-append pre (None ∷ []) ∙ omega arith)
-  refill c at pre (Some k ∷ rest) e q =
-      entered_ok g at (placed_in c k) (map task_rec (tasks (suc c) rest) ++ map frame_rec fs) (pre ++ (None ∷ replicate (length rest) None)) (admits c pre rest k e q)
-      ∙ ap (entered g (at + 37) (map task_rec (tasks (suc c) rest) ++ map frame_rec fs)) (set_at pre c None (Some k) (replicate (length rest) None) q ∙ sym (append_assoc pre (Some k ∷ []) (replicate (length rest) None)))
-      ∙ refill (suc c) (at + 37) (pre ++ (Some k ∷ [])) rest (append_assoc pre (Some k ∷ []) rest ∙ e) (length-append pre (Some k ∷ []) ∙ omega arith)
+  refill : (c n : ℕ) (o : Option ℕ) (pre rest : Channels) → pre ++ rest ≡ l → length pre ≡ c → filled_by (in_turn g n o (tasks c rest) (pre ++ none rest)) ≡ (Ok tt, l)
+  unfolding none in_turn
+  refill c n o pre [] e q = ap (λ (x : Channels). let d : Filled = (Ok tt, x) in d) e
+  refill c n o pre (None ∷ rest) e q =
+      ap (λ (x : Channels). filled_by (in_turn g n o (tasks (suc c) rest) x)) (sym (append_assoc pre (None ∷ []) (replicate (length rest) None)))
+      ∙ refill (suc c) n o (pre ++ (None ∷ [])) rest (append_assoc pre (None ∷ []) rest ∙ e) (length-append pre (None ∷ []) ∙ omega arith)
+  refill c n o pre (Some k ∷ rest) e q =
+      let v = admits c pre rest k e q in
+      ap filled_by (entered_ok g n v.0 o (placed_in c k) (tasks (suc c) rest) (pre ++ (None ∷ replicate (length rest) None)) v.1)
+      ∙ ap (λ (x : Channels). filled_by (in_turn g (suc n) (Some v.0) (tasks (suc c) rest) x)) (set_at pre c None (Some k) (replicate (length rest) None) q ∙ sym (append_assoc pre (Some k ∷ []) (replicate (length rest) None)))
+      ∙ refill (suc c) (suc n) (Some v.0) (pre ++ (Some k ∷ [])) rest (append_assoc pre (Some k ∷ []) rest ∙ e) (length-append pre (Some k ∷ []) ∙ omega arith)
 
-  refilled : entered g 0 (contents l fs) blank ≡ (Ok tt, l)
+  refilled : filled_by (in_turn g 0 None (tasks 0 l) blank) ≡ (Ok tt, l)
   unfolding none
-  refilled = ap (λ (i : ℕ). entered g 0 (contents l fs) (replicate i None)) (sym n) ∙ refill 0 0 [] l refl refl
-
--- The frames of a written image.
-frames_of_contents : (ts : List TaskRec) (fs : List FrameParams) → frames_in (map task_rec ts ++ map frame_rec fs) ≡ fs
-frames_of_contents [] [] = refl
-frames_of_contents [] (f ∷ fs) = ap (λ (gs : List FrameParams). f ∷ gs) (frames_of_contents [] fs)
-frames_of_contents (t ∷ ts) fs = frames_of_contents ts fs
+  refilled = ap (λ (i : ℕ). filled_by (in_turn g 0 None (tasks 0 l) (replicate i None))) (sym sixty-four) ∙ refill 0 0 None [] l refl refl
 
 tasks_blank : (n c : ℕ) → tasks c (replicate n None) ≡ []
 tasks_blank zero c = refl
 tasks_blank (suc n) c = tasks_blank n (suc c)
 
-reached_back : (g : Meaning) → Laws g → (ks : List Call) (fs : List FrameParams) → entered g 0 (contents (after g blank ks) fs) blank ≡ (Ok tt, after g blank ks)
-reached_back g lg ks fs = go (after_stands g lg ks)
+reached_back : (g : Meaning) → Laws g → (ks : List Call) → filled_by (in_turn g 0 None (tasks 0 (after g blank ks)) blank) ≡ (Ok tt, after g blank ks)
+unfolding in_turn
+reached_back g lg ks = go (after_stands g lg ks)
   where
-    go : Accepted (plan g (after g blank ks)).amounts ⊎ (after g blank ks ≡ blank) → entered g 0 (contents (after g blank ks) fs) blank ≡ (Ok tt, after g blank ks)
-    go (inl a) = refilled g lg (after g blank ks) (after_writable g ks) (after_length g ks) (after_ranged g ks) a fs
+    go : Accepted (plan g (after g blank ks)).amounts ⊎ (after g blank ks ≡ blank) → filled_by (in_turn g 0 None (tasks 0 (after g blank ks)) blank) ≡ (Ok tt, after g blank ks)
+    go (inl a) = refilled g lg (after g blank ks) (after_writable g ks) (after_length g ks) (after_ranged g ks) a
     go (inr e) =
-        ap (λ (x : Channels). entered g 0 (contents x fs) blank) e
-        ∙ ap (λ (ts : List TaskRec). entered g 0 (map task_rec ts ++ map frame_rec fs) blank) (tasks_blank 64 0)
-        ∙ entered_frames g 0 fs blank
+        ap (λ (x : Channels). filled_by (in_turn g 0 None (tasks 0 x) blank)) e
+        ∙ ap (λ (ts : List Placed). filled_by (in_turn g 0 None ts blank)) (tasks_blank 64 0)
         ∙ ap (λ (x : Channels). let d : Filled = (Ok tt, x) in d) (sym e)
 
 pub reads_again : (g : Meaning) → Laws g → (before : List Call) (l : Channels) (fs : List FrameParams) → l ≡ after g blank before → length fs ≤ 16 → All FrameRanges fs → ReadsAgain g l fs
@@ -145,6 +142,7 @@ reads_again g lg before l fs e h r =
     (reads_back (after g blank before) fs (omega (arith, after_length g before)) (after_writable g before) h r) in
     record {
       records = d;
-      frames = λ held. ap (λ x. taken x held) d ∙ ap (λ (gs : List FrameParams). (Ok tt, gs)) (frames_of_contents (tasks 0 l) fs);
-      channels = ap (λ x. filled g x blank) d ∙ subst (λ (x : Channels). entered g 0 (contents x fs) blank ≡ (Ok tt, x)) (sym e) (reached_back g lg before fs);
+      frames = taken_is (encode l fs) (tasks 0 l) fs d;
+      channels = filled_is (encode l fs) (tasks 0 l) fs d g blank
+          ∙ subst (λ (x : Channels). filled_by (in_turn g 0 None (tasks 0 x) blank) ≡ (Ok tt, x)) (sym e) (reached_back g lg before);
     }

@@ -1,9 +1,10 @@
 -- One record reads back from its bytes, and what was read writes the same bytes back.
 use Rattle.std.proofs.Common.{◌≡◌, ℕ, ◌+◌, ◌^◌, ◌<◌, ◌≤◌, List, [], ◌∷◌, ◌++◌, length, take, drop, sym, refl, ap, ◌∙◌, ap₂, append_assoc, arith, length-append}
 use Rattle.std.proofs.lemmas.List.{take-append-drop, drop-drop, drop_at, take_at, drop-take, take-take, append-nil}
+use Rattle.plan.specs.Admissions.{Placed}
 use Rattle.format.specs.Bytes.{bytes, value, Bytes}
 use Rattle.loads.specs.Params.{FrameParams}
-use Rattle.format.specs.Records.{field, TaskRec, Rec, task_rec, frame_rec, task_bytes, frame_bytes, rec_bytes, size, task_in, frame_in}
+use Rattle.format.specs.Records.{field, Rec, task_rec, frame_rec, task_bytes, frame_bytes, rec_bytes, size, task_in, frame_in}
 use Rattle.format.proofs.BigEndian.{value_bytes, bytes_field}
 
 chunk : (w i : ℕ) (xs : List ℕ) → take w (drop i xs) ++ drop (i + w) xs ≡ drop i xs
@@ -32,7 +33,7 @@ frame_written xs h l =
     ap (λ (ys : List ℕ). 0x52 ∷ 0x46 ∷ ys) (step 2 4 xs (bytes 4 (field 2 4 xs)) _ (f 2 4 (omega arith)) s₂)
 
 -- The numbers of a record fit their bytes.
-pub record TaskFits (t : TaskRec) : Type 0 where
+pub record TaskFits (t : Placed) : Type 0 where
   pub label : length t.content.label ≡ 16
   pub channel : t.channel < 256 ^ 1
   pub cost : t.content.params.cost < 256 ^ 4
@@ -54,7 +55,7 @@ Fits (frame_rec f) = FrameFits f
 past : (n k : ℕ) (xs ys : List ℕ) → length xs ≡ n → drop (n + k) (xs ++ ys) ≡ drop k ys
 past n k xs ys e = sym (drop-drop k n (xs ++ ys)) ∙ ap (drop k) (drop_at xs ys n e)
 
-same_task : (s t : TaskRec) → s.content.label ≡ t.content.label → s.channel ≡ t.channel → s.content.params.cost ≡ t.content.params.cost → s.content.params.period ≡ t.content.params.period
+same_task : (s t : Placed) → s.content.label ≡ t.content.label → s.channel ≡ t.channel → s.content.params.cost ≡ t.content.params.cost → s.content.params.period ≡ t.content.params.period
     → s.content.params.deadline ≡ t.content.params.deadline → s.content.params.jitter ≡ t.content.params.jitter → s.content.params.section ≡ t.content.params.section → s ≡ t
 same_task s t a b c d e f g = λ i. record { channel = b i; content = record { label = a i; params = record { cost = c i; period = d i; deadline = e i; jitter = f i; section = g i } } }
 
@@ -62,7 +63,7 @@ same_frame : (s t : FrameParams) → s.cost ≡ t.cost → s.deadline ≡ t.dead
 same_frame s t a b c = λ i. record { cost = a i; deadline = b i; gap = c i }
 
 -- A record is read back from its bytes.
-pub task_back : (t : TaskRec) (xs : List ℕ) → TaskFits t → task_in (task_bytes t ++ xs) ≡ t
+pub task_back : (t : Placed) (xs : List ℕ) → TaskFits t → task_in (task_bytes t ++ xs) ≡ t
 task_back t xs h =
     let numbers : List ℕ = bytes 1 t.channel ++ (bytes 4 t.content.params.cost ++ (bytes 4 t.content.params.period ++ (bytes 4 t.content.params.deadline ++ (bytes 4 t.content.params.jitter ++ bytes 2 t.content.params.section)))) in
     let all : List ℕ = numbers ++ xs in
@@ -98,5 +99,5 @@ pub frame_in_take : (xs : List ℕ) → frame_in (take 14 xs) ≡ frame_in xs
 frame_in_take xs =
     same_frame (frame_in (take 14 xs)) (frame_in xs) (ap value (inside 2 12 4 xs (omega arith))) (ap value (inside 6 8 4 xs (omega arith))) (ap value (inside 10 4 4 xs (omega arith)))
 
-pub task_own : (t : TaskRec) → TaskFits t → task_in (task_bytes t) ≡ t
+pub task_own : (t : Placed) → TaskFits t → task_in (task_bytes t) ≡ t
 task_own t h = ap task_in (sym (append-nil (task_bytes t))) ∙ task_back t [] h

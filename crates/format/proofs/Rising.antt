@@ -1,20 +1,17 @@
 -- Records that pass one after another: tasks by rising channel, so that the channels from the next one on are empty.
-use Rattle.std.proofs.Common.{◌≡◌, ℕ, zero, suc, ◌+◌, ◌-◌, ◌<◌, ◌≤◌, Bool, true, false, cond, ◌&&◌, eqb, leb, List, [], ◌∷◌, ◌++◌, length, drop, set, replicate, Some, None, Ok, Err, sym, refl, ap, ◌∙◌, subst, ap₂, add-zero, add-suc, suc-add, arith}
+use Rattle.std.proofs.Common.{◌≡◌, ℕ, zero, suc, ◌+◌, ◌-◌, ◌<◌, ◌≤◌, List, [], ◌∷◌, ◌++◌, length, drop, set, replicate, Some, None, Ok, Err, sym, refl, ap, ◌∙◌, subst, ap₂, add-zero, add-suc, suc-add, arith}
 use Rattle.std.proofs.lemmas.List.{drop-drop, drop-set-lt}
-use Rattle.std.proofs.lemmas.Bool.{leb-true, eqb-true}
-use Rattle.loads.specs.declared.refusal.Refusal.TheVariants.{NoChannel, BadLabel, OutOfOrder}
-use Rattle.loads.specs.Making.{task_refusal}
 use Rattle.loads.specs.Channels.{Content, Channels}
-use Rattle.plan.specs.Labels.{good_label}
+use Rattle.plan.specs.Admissions.{Placed}
 use Rattle.format.specs.declared.before.Before.{Before}
 use Rattle.format.specs.declared.fault.RecordFault.TheVariants as in_record
-use Rattle.format.specs.Records.{Rec, task_rec, frame_rec, TaskRec, start, after, fault, out_of_range}
+use Rattle.format.specs.Records.{Rec, task_rec, frame_rec, start, after, fault}
 use Rattle.format.specs.Decode.{decode, tasks_in, rec_in}
 use Rattle.format.specs.Encode.{placed_in, tasks}
 use Rattle.format.specs.Parts.{offset, pieces_from}
 use Rattle.format.proofs.Front.{clash}
 use Rattle.format.proofs.Items.{Item, checks, decode_checks, first_passes}
-use Rattle.format.proofs.TakingFrames.{faulty, in_range}
+use Rattle.format.proofs.Passing.{task_passes}
 
 -- Each record passes after those before it.
 abbrev pub Lawful : Before → List Rec → Type 0
@@ -29,40 +26,6 @@ lawful b (Ok p ∷ is) rs e = let m = first_passes b p is rs e in subst (Lawful 
 -- The records of an image that was read pass one after another.
 pub decoded_lawful : (xs : List ℕ) (rs : List Rec) → decode xs ≡ Ok rs → Lawful start rs
 decoded_lawful xs rs e = lawful start (pieces_from xs (Some 0)) rs (sym (decode_checks xs) ∙ e)
-
--- What the checks say of a task that passes them.
-pub record Passes (b : Before) (t : TaskRec) : Type 0 where
-  pub label : good_label t.content.label ≡ true
-  pub rising : b.least ≤ t.channel
-  pub channel : t.channel ≤ 63
-  pub first : b.frames ≡ 0
-  pub ranged : task_refusal t.content.params ≡ None
-
-pub task_passes : (b : Before) (at : ℕ) (t : TaskRec) → fault b at (task_rec t) ≡ None → Passes b t
-task_passes b at t p = go (good_label t.content.label) (leb t.channel 63) (leb b.least t.channel) (eqb b.frames 0) refl refl refl refl p
-  where
-    go : (x y z w : Bool) → good_label t.content.label ≡ x → leb t.channel 63 ≡ y → leb b.least t.channel ≡ z → eqb b.frames 0 ≡ w
-        → cond x (cond y (cond (z && w) (out_of_range at (task_refusal t.content.params)) (Some (in_record.Refused OutOfOrder at))) (Some (in_record.Refused NoChannel at))) (Some (in_record.Refused BadLabel at)) ≡ None
-        → Passes b t
-    go false y z w e₀ e₁ e₂ e₃ q = faulty (in_record.Refused BadLabel at) q
-    go true false z w e₀ e₁ e₂ e₃ q = faulty (in_record.Refused NoChannel at) q
-    go true true false w e₀ e₁ e₂ e₃ q = faulty (in_record.Refused OutOfOrder at) q
-    go true true true false e₀ e₁ e₂ e₃ q = faulty (in_record.Refused OutOfOrder at) q
-    go true true true true e₀ e₁ e₂ e₃ q = record {
-      label = e₀;
-      rising = leb-true b.least t.channel e₂;
-      channel = leb-true t.channel 63 e₁;
-      first = eqb-true b.frames 0 e₃;
-      ranged = in_range at (task_refusal t.content.params) q;
-    }
-
--- The channels of the tasks rise up to 63, so there are at most 64 of them.
-pub few_tasks : (b : Before) (rs : List Rec) → b.least ≤ 64 → Lawful b rs → b.least + length (tasks_in rs) ≤ 64
-few_tasks b [] h k = omega arith
-few_tasks b (task_rec t ∷ rs) h k =
-    let w = task_passes b k.0.0 t k.0.1 in
-    omega (arith, w.rising, w.channel, few_tasks (after b (task_rec t)) rs (omega (arith, w.channel)) k.1)
-few_tasks b (frame_rec f ∷ rs) h k = few_tasks (after b (frame_rec f)) rs h k.1
 
 -- After a frame there are no tasks.
 pub no_tasks : (b : Before) (rs : List Rec) → 0 < b.frames → Lawful b rs → tasks_in rs ≡ []
@@ -105,9 +68,9 @@ pub tasks_set : (k c : ℕ) (l : Channels) (e : Content) → c < length l → Em
 tasks_set k c [] e h m = absurd (omega arith)
 tasks_set k zero (None ∷ l) e h m =
     let q = no_entries (suc k) l m in
-    ap₂ (λ (n : ℕ) (ts : List TaskRec). placed_in n e ∷ ts) (sym (add-zero k)) q ∙ ap (λ (ts : List TaskRec). ts ++ (placed_in (k + 0) e ∷ [])) (sym q)
+    ap₂ (λ (n : ℕ) (ts : List Placed). placed_in n e ∷ ts) (sym (add-zero k)) q ∙ ap (λ (ts : List Placed). ts ++ (placed_in (k + 0) e ∷ [])) (sym q)
 tasks_set k zero (Some x ∷ l) e h m = absurd m
 tasks_set k (suc c) (None ∷ l) e h m =
     tasks_set (suc k) c l e (omega arith) m ∙ ap (λ (n : ℕ). tasks (suc k) l ++ (placed_in n e ∷ [])) (suc-add k c ∙ sym (add-suc k c))
 tasks_set k (suc c) (Some x ∷ l) e h m =
-    ap (λ (ts : List TaskRec). placed_in k x ∷ ts) (tasks_set (suc k) c l e (omega arith) m ∙ ap (λ (n : ℕ). tasks (suc k) l ++ (placed_in n e ∷ [])) (suc-add k c ∙ sym (add-suc k c)))
+    ap (λ (ts : List Placed). placed_in k x ∷ ts) (tasks_set (suc k) c l e (omega arith) m ∙ ap (λ (n : ℕ). tasks (suc k) l ++ (placed_in n e ∷ [])) (suc-add k c ∙ sym (add-suc k c)))

@@ -1,12 +1,13 @@
 -- The image, read: the parts that stand one after another, and the records or the first fault.
 use Rattle.std.specs.Prelude.{ℕ, zero, suc, ◌+◌, Bool, cond, ◌&&◌, List, [], ◌∷◌, length, take, drop, Some, None, Ok, Err, Option, Result, ◌==◌, nat_le, slice_index}
 use Rattle.loads.specs.Params.{FrameParams}
+use Rattle.plan.specs.Admissions.{Placed}
 use Rattle.format.specs.declared.fault.ImageFault.{ImageFault}
 use Rattle.format.specs.declared.fault.ImageFault.TheVariants.{UnknownMark, Cut, Trailing}
 use Rattle.format.specs.declared.fault.RecordFault.{RecordFault}
 use Rattle.format.specs.declared.fault.RecordFault.TheVariants.{Image}
 use Rattle.format.specs.declared.before.Before.{Before}
-use Rattle.format.specs.Records.{Rec, task_rec, frame_rec, TaskRec, size, task_in, frame_in, start, after, fault}
+use Rattle.format.specs.Records.{Rec, task_rec, frame_rec, size, task_in, frame_in, start, after, fault}
 
 -- The bytes `xs` begin with the mark of the two bytes `a` and `b`.
 abbrev pub marked : ℕ → ℕ → List ℕ → Bool
@@ -71,7 +72,7 @@ unfoldable pub decode : List ℕ → Result (List Rec) RecordFault
 decode xs = records (length xs) start 0 xs
 
 -- The tasks among the records of an image.
-abbrev pub tasks_in : List Rec → List TaskRec
+abbrev pub tasks_in : List Rec → List Placed
 tasks_in [] = []
 tasks_in (task_rec t ∷ rs) = t ∷ tasks_in rs
 tasks_in (frame_rec f ∷ rs) = tasks_in rs

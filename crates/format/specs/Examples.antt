@@ -3,9 +3,10 @@ use Rattle.std.specs.Prelude.{◌≡◌, ℕ, List, [], ◌∷◌, take, replica
 use Rattle.loads.specs.declared.refusal.Refusal.{Refusal}
 use Rattle.loads.specs.Refusals.{number}
 use Rattle.loads.specs.Params.{FrameParams, task, frame}
+use Rattle.plan.specs.Admissions.{Placed}
 use Rattle.format.specs.declared.fault.RecordFault.{RecordFault}
 use Rattle.format.specs.Faults.{record_fault}
-use Rattle.format.specs.Records.{Rec, TaskRec, task_rec, frame_rec}
+use Rattle.format.specs.Records.{Rec, task_rec, frame_rec}
 use Rattle.format.specs.Decode.{decode}
 use Rattle.format.specs.Encode.{image}
 
@@ -27,7 +28,7 @@ abbrev pub good : List ℕ
 good = 0x21 ∷ 0x7E ∷ replicate 14 0
 
 -- A task record with this label and channel.
-abbrev pub sample : List ℕ → ℕ → TaskRec
+abbrev pub sample : List ℕ → ℕ → Placed
 sample l c = record { channel = c; content = record { label = l; params = task 4 10 7 1 2 } }
 
 -- A frame in range.

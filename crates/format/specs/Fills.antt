@@ -1,19 +1,20 @@
 -- What the reading calls answer, and what train and plan hold then.
-use Rattle.std.specs.Prelude.{◌≡◌, ℕ, ◌+◌, List, [], ◌∷◌, Some, Ok, Err, Result, slice_set}
+use Rattle.std.specs.Prelude.{ℕ, ◌*◌, List, None, Ok, Err, Result}
 use Rattle.theory.specs.Meaning.{Meaning}
 use Rattle.loads.specs.declared.refusal.Refusal.{Refusal}
 use Rattle.loads.specs.declared.entry.Entry.{Entry}
 use Rattle.loads.specs.Params.{TaskParams, FrameParams}
 use Rattle.loads.specs.Channels.{Content, Channels, blank, content}
 use Rattle.plan.specs.declared.call.Call.{Call}
-use Rattle.plan.specs.Ledger.{admitted, after, answers_to}
+use Rattle.plan.specs.Ledger.{after, answers_to}
 use Rattle.plan.specs.Promise.{Kept}
+use Rattle.plan.specs.Admissions.{InTurn, in_turn}
 use Rattle.format.specs.declared.fault.RecordFault.{RecordFault}
 use Rattle.format.specs.declared.fault.RecordFault.TheVariants as in_record
 use Rattle.format.specs.declared.fault.PlanFault.{PlanFault}
 use Rattle.format.specs.declared.fault.PlanFault.TheVariants.{Record, Refused}
-use Rattle.format.specs.Records.{Rec, TaskRec, task_rec, frame_rec}
-use Rattle.format.specs.Decode.{frames_in}
+use Rattle.format.specs.Records.{Rec}
+use Rattle.format.specs.Decode.{tasks_in, frames_in}
 
 -- What taking frames answers, and the frames of the train then.
 abbrev pub Taken : Type 0
@@ -28,10 +29,6 @@ Filled = Result (Unit {0}) PlanFault × Channels
 abbrev pub taken : Result (List Rec) RecordFault → List FrameParams → Taken
 taken (Ok rs) held = (Ok tt, frames_in rs)
 taken (Err e) held = (Err e, held)
-
--- The answer `r` is no refusal, and the frames `now` are the `wanted` ones.
-abbrev pub FramesThen : Result (Unit {0}) RecordFault → List FrameParams → List FrameParams → Type 0
-FramesThen r now wanted = (r ≡ Ok tt) × (now ≡ wanted)
 
 -- What a making answers, its refusal told as the fault of the record at `at`.
 abbrev pub ranged : {A : Type 0} → ℕ → Result A Refusal → Result A RecordFault
@@ -48,26 +45,24 @@ abbrev pub entry_made : Result Entry RecordFault → Result Content RecordFault
 entry_made (Ok e) = Ok (content e)
 entry_made (Err e) = Err e
 
--- The tasks of the records from offset `at` on are admitted one after another, up to the first that is refused:
--- the answer, and the ledger then, which keeps the tasks of earlier records.
-unfoldable pub entered : Meaning → ℕ → List Rec → Channels → Filled
-entered g at [] l = (Ok tt, l)
-entered g at (frame_rec f ∷ rs) l = entered g (at + 14) rs l
-entered g at (task_rec t ∷ rs) l = elim (admitted g l t.channel t.content) [
-  | Err e ↦ (Err (Refused e at), l)
-  | Ok u ↦ entered g (at + 37) rs (slice_set l t.channel (Some t.content))
-]
+-- A refused task told by the offset of its record: tasks come first in an image that was read, and each takes 37 bytes.
+abbrev pub at_offset : {X : Type 0} → Result X (ℕ × Refusal) → Result X PlanFault
+at_offset (Ok x) = Ok x
+at_offset (Err p) = Err (Refused p.1 (37 * p.0))
 
--- One task admitted: the answer, and the ledger then.
-abbrev pub one_entered : Meaning → ℕ → TaskRec → Channels → Filled
-one_entered g at t l = elim (admitted g l t.channel t.content) [
-  | Err e ↦ (Err (Refused e at), l)
-  | Ok u ↦ (Ok tt, slice_set l t.channel (Some t.content))
-]
+-- An answer without the value that it gives.
+abbrev pub valueless : {X : Type 0} → Result X PlanFault → Result (Unit {0}) PlanFault
+valueless (Ok x) = Ok tt
+valueless (Err e) = Err e
 
--- `m` is what some list of calls makes of the ledger `l`.
-abbrev pub Reached : Meaning → Channels → Channels → Type 0
-Reached g l m = (ks : List Call) × (m ≡ after g l ks)
+-- The admitting of tasks, as what filling answers.
+abbrev pub filled_by : InTurn → Filled
+filled_by x = (valueless (at_offset x.0), x.1)
+
+-- The tasks of the records are admitted one after another, up to the first that is refused: the answer, and the ledger
+-- then, which keeps the tasks of earlier records.
+abbrev pub entered : Meaning → List Rec → Channels → Filled
+entered g rs l = filled_by (in_turn g 0 None (tasks_in rs) l)
 
 -- The ledger `m` is what some more calls `ks` make after the calls `before`, and the plan's promise stands. The answers
 -- here are the ledger's own: which calls they were and what was answered is said by `filled`.
@@ -77,4 +72,4 @@ KeptAgain g before m = (ks : List Call) × Kept g before ks (answers_to g (after
 -- Filling a plan over a guest that means `g`: the answer, and the ledger then.
 abbrev pub filled : Meaning → Result (List Rec) RecordFault → Channels → Filled
 filled g (Err e) l = (Err (Record e), l)
-filled g (Ok rs) l = entered g 0 rs l
+filled g (Ok rs) l = entered g rs l

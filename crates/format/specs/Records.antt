@@ -1,28 +1,23 @@
 -- The records of an image: their numbers, their bytes, and what is checked of them.
-use Rattle.std.specs.Prelude.{ℕ, suc, cond, ◌&&◌, List, ◌∷◌, ◌++◌, take, drop, Some, None, Option, ◌==◌, nat_le, nat_lt}
+use Rattle.std.specs.Prelude.{ℕ, suc, cond, ◌&&◌, List, ◌∷◌, ◌++◌, map, take, drop, Some, None, Option, ◌==◌, nat_le, nat_lt}
 use Rattle.loads.specs.declared.refusal.Refusal.{Refusal}
 use Rattle.loads.specs.declared.refusal.Refusal.TheVariants.{TrainFull, NoChannel, BadLabel, OutOfOrder}
 use Rattle.loads.specs.Params.{TaskParams, FrameParams}
 use Rattle.loads.specs.Making.{task_refusal, frame_refusal}
-use Rattle.loads.specs.Channels.{Content}
 use Rattle.plan.specs.Labels.{good_label}
+use Rattle.plan.specs.Admissions.{Placed}
 use Rattle.format.specs.declared.fault.RecordFault.{RecordFault}
 use Rattle.format.specs.declared.fault.RecordFault.TheVariants.{Refused}
 use Rattle.format.specs.declared.before.Before.{Before}
 use Rattle.format.specs.Bytes.{bytes, value}
 
--- The record of a task: its channel, and what is to stand there.
-pub record TaskRec : Type 0 where
-  pub channel : ℕ
-  pub content : Content
-
 -- A record of an image: that of a task, or that of a frame.
 pub data Rec : Type 0 where
-  task_rec : TaskRec → Rec
+  task_rec : Placed → Rec
   frame_rec : FrameParams → Rec
 
 -- The bytes of a task's record, its mark with them: 37.
-abbrev pub task_bytes : TaskRec → List ℕ
+abbrev pub task_bytes : Placed → List ℕ
 task_bytes t =
     0x54 ∷ 0x4B ∷ t.content.label ++ (bytes 1 t.channel
     ++ (bytes 4 t.content.params.cost ++ (bytes 4 t.content.params.period ++ (bytes 4 t.content.params.deadline
@@ -36,6 +31,10 @@ frame_bytes f = 0x52 ∷ 0x46 ∷ bytes 4 f.cost ++ (bytes 4 f.deadline ++ bytes
 abbrev pub rec_bytes : Rec → List ℕ
 rec_bytes (task_rec t) = task_bytes t
 rec_bytes (frame_rec f) = frame_bytes f
+
+-- The records of an image in their order: tasks, then frames.
+abbrev pub in_order : List Placed → List FrameParams → List Rec
+in_order ts fs = map task_rec ts ++ map frame_rec fs
 
 -- How many bytes a record takes.
 abbrev pub size : Rec → ℕ
@@ -51,7 +50,7 @@ abbrev pub params_in : List ℕ → TaskParams
 params_in xs = record { cost = field 19 4 xs; period = field 23 4 xs; deadline = field 27 4 xs; jitter = field 31 4 xs; section = field 35 2 xs }
 
 -- The record of a task that bytes hold.
-abbrev pub task_in : List ℕ → TaskRec
+abbrev pub task_in : List ℕ → Placed
 task_in xs = record { channel = field 18 1 xs; content = record { label = take 16 (drop 2 xs); params = params_in xs } }
 
 -- The frame that bytes hold.

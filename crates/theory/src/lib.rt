@@ -1,8 +1,8 @@
 //! What a load is, what the dispatcher does with it, and why an accepted load is never late.
 //!
 //! The definitions stand in `specs/`, the theorems over them in `proofs/`; `theorems` has a function for each
-//! theorem, whose contract states it. `load` has the interface that every kind of load implements, `rows` that of a
-//! load that answers rows of ticks, `verdict` the two ways in which a load can fail to be accepted.
+//! theorem, whose contract states it. `load` has the interface that every kind of load implements, `rows` the rows of
+//! ticks that it answers, `verdict` the two ways in which a load can fail to be accepted.
 
 #![tactic(auto)]
 

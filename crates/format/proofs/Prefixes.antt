@@ -16,7 +16,7 @@ use Rattle.loads.specs.declared.refusal.Refusal.{Refusal}
 use Rattle.loads.specs.Params.{TaskParams, TaskRanges}
 use Rattle.loads.specs.Tasks.{total, largest, tasks_meaning, tasks_amounts}
 use Rattle.loads.specs.Channels.{Content, Channels, filled}
-use Rattle.loads.specs.TaskList.{tasks_laws}
+use Rattle.loads.specs.TasksLaws.{tasks_laws}
 use Rattle.plan.specs.Ledger.{refusal_of, by_verdict, admitted}
 use Rattle.format.specs.declared.before.Before.{Before}
 use Rattle.format.specs.declared.fault.PlanFault.TheVariants.{Refused}

@@ -1,4 +1,4 @@
--- A list of tasks is its first task beside the others, and so it is a load.
+-- Tasks are the first of them beside the others, and so they keep the laws of a load; and a task's marks are kT + D − J.
 use Rattle.std.specs.Prelude.{◌≡◌, ℕ, ◌+◌, ◌-◌, ◌*◌, ◌/◌, ◌%◌, true, List, [], ◌∷◌, ◌==◌, nat_le, refl}
 use Rattle.std.proofs.Common.{subst, sym, ap, ◌∙◌, arith, div-add-mod'}
 use Rattle.std.proofs.lemmas.Bool.{and_parts, and_from, leb-true, eqb-true, le-leb, eq-eqb}

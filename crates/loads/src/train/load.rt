@@ -3,8 +3,10 @@ ghost use Rattle.loads.specs.TrainRanges.{frames_ranged};
 ghost use Rattle.loads.specs.TrainLaws.{train_laws};
 
 use super::RampTrain;
+use super::rows::Counted;
 use crate::ticks::Ticks;
 use theory::load::Load;
+use theory::rows::{Effort, ROW, cut_next_row, cut_row};
 
 /// A train is a load: each amount is the largest over the frames that the circle can begin with.
 impl Load for RampTrain {
@@ -27,5 +29,27 @@ impl Load for RampTrain {
 
     fn last_mark(&self, t: u64) -> Option<u64> {
         self.last_below(Ticks::upto(t))
+    }
+
+    fn due_row(&self, from: u64) -> [u64; ROW] {
+        cut_row(self.row_of(Counted::Due, from), from)
+    }
+
+    #[tactic(auto, unfolding(crate::specs::Train::train_amounts, theory::specs::Rows::row))]
+    fn held_row(&self, from: u64) -> [u64; ROW] {
+        [0; ROW]
+    }
+
+    fn ready_row(&self, from: u64) -> [u64; ROW] {
+        let before = from.min(100_000_000).saturating_sub(1);
+        cut_next_row(self.row_of(Counted::Ready, before), from)
+    }
+
+    fn effort(&self) -> Effort {
+        let frames = self.frames().len() as u64;
+        Effort {
+            question: frames,
+            row: frames.saturating_mul(8).saturating_add(64),
+        }
     }
 }

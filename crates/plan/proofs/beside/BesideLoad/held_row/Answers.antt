@@ -1,10 +1,9 @@
-use Rattle.std.proofs.Common.{◌+◌}
 use Rattle.theory.specs.Beside.{beside, both}
-use Rattle.plan.proofs.beside.BesideRows.ready_row.Goals as goal
+use Rattle.plan.proofs.beside.BesideLoad.held_row.Goals as goal
 
 pub returns : goal.returns
 unfolding beside both
 returns g c =
     let a = (g.A.Load.meaning c.args.self.now.first).amounts in
     let b = (g.B.Load.meaning c.args.self.now.second).amounts in
-    c.row_sum.ensures (λ n. a.ready (n + 1)) (λ n. b.ready (n + 1)) c.args.from c.ready_row.ensures c.ready_row-2.ensures
+    c.row_most.ensures a.held b.held c.args.from c.held_row.ensures c.held_row-2.ensures

@@ -1,5 +1,5 @@
 use Rattle.theory.specs.Beside.{beside, both}
-use Rattle.plan.proofs.beside.BesideRows.due_row.Goals as goal
+use Rattle.plan.proofs.beside.BesideLoad.due_row.Goals as goal
 
 pub returns : goal.returns
 unfolding beside both

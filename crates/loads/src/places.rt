@@ -8,10 +8,11 @@ ghost use Rattle.loads.specs.Places.{Gives, params_behind};
 ghost use Rattle.loads.specs.Steps.{grown};
 
 use crate::marks::later;
+use crate::steps::Steps;
 use crate::steps::tops::Tops;
-use crate::steps::{CUT, Steps};
 use crate::task::Task;
 use crate::ticks::Ticks;
+use theory::limits::CUT;
 use theory::rows::ROW;
 
 /// A place in which a task can stand.

@@ -6,6 +6,7 @@ ghost use Rattle.theory.specs.Beside.{beside};
 ghost use Rattle.theory.proofs.BesideLaws.{beside_laws};
 
 use loads::marks::later;
+use theory::limits::CUT;
 use theory::load::Load;
 use theory::rows::{Effort, ROW};
 
@@ -23,7 +24,7 @@ fn row_sum(a: &[u64; ROW], b: &[u64; ROW]) -> [u64; ROW]
     let mut sums = [0; ROW];
     for (i, amount) in a.iter().enumerate() {
         // By index: what is written through `iter_mut` a proof does not know afterwards.
-        sums[i] = amount.saturating_add(b[i]).min(1 << 40);
+        sums[i] = amount.saturating_add(b[i]).min(CUT);
     }
     sums
 }
@@ -45,7 +46,7 @@ impl<A: Load, B: Load> Load for Beside<A, B> {
     ghost lawful = { λ x. beside_laws (A.Load.meaning x.first) (B.Load.meaning x.second) (A.Load.lawful x.first) (B.Load.lawful x.second) };
 
     fn due(&self, t: u64) -> u64 {
-        (self.first.due(t) + self.second.due(t)).min(1 << 40)
+        (self.first.due(t) + self.second.due(t)).min(CUT)
     }
 
     fn held(&self, t: u64) -> u64 {
@@ -53,7 +54,7 @@ impl<A: Load, B: Load> Load for Beside<A, B> {
     }
 
     fn ready(&self, s: u64) -> u64 {
-        (self.first.ready(s) + self.second.ready(s)).min(1 << 40)
+        (self.first.ready(s) + self.second.ready(s)).min(CUT)
     }
 
     fn last_mark(&self, t: u64) -> Option<u64> {

@@ -1,6 +1,8 @@
 ghost use Rattle.std.specs.Prelude.{◌≡◌, ℕ, ◌+◌, ◌-◌, min};
 ghost use Rattle.theory.specs.Rows.{row, uncut_row, Asks};
 
+use crate::limits::LAST;
+
 /// How many ticks a row has.
 pub const ROW: usize = 256;
 
@@ -15,9 +17,6 @@ pub(crate) fn row_by<F: Fn(u64) -> u64>(from: u64, question: F) -> [u64; ROW]
     }
     answers
 }
-
-/// The last tick at which a question is asked: one above it counts as it.
-const LAST: u64 = 100_000_000;
 
 /// The row of a load that finds its rows as if 100,000,000 were a tick as any other: beyond it each place takes what
 /// stands there.
@@ -41,6 +40,13 @@ fn moved_row(uncut: &[u64; ROW]) -> [u64; ROW]
         row[i] = uncut[i - 1];
     }
     row
+}
+
+/// One tick before `from`, where the row begins that `cut_next_row` takes.
+pub fn tick_before(from: u64) -> u64
+    ensures { result ≡ min from 100000000 - 1 }
+{
+    from.min(LAST).saturating_sub(1)
 }
 
 /// As `cut_row`, from an uncut row that begins one tick earlier and has at each tick what is to stand at the next one: so

@@ -1,6 +1,7 @@
 ghost use Rattle.std.specs.Prelude.{◌≡◌, length};
 
-use super::{CUT, Steps};
+use super::Steps;
+use theory::limits::CUT;
 use theory::rows::ROW;
 
 /// The largest of several that grow in steps, over a row of ticks: at each tick it is the largest of the numbers up to

@@ -6,7 +6,7 @@ use crate::places::{Place, held_row, largest, latest, row, total};
 use crate::task::Task;
 use crate::ticks::Ticks;
 use theory::load::Load;
-use theory::rows::{Effort, ROW, cut_next_row, cut_row};
+use theory::rows::{Effort, ROW, cut_next_row, cut_row, tick_before};
 
 /// A channel is a place in which a task can stand.
 impl Place for Slot {
@@ -53,8 +53,7 @@ impl Load for Table<Slot> {
 
     /// Counted from the first arrival, jobs are released at 0, T, .., and t + 1 ticks have what is released up to tick t.
     fn ready_row(&self, from: u64) -> [u64; ROW] {
-        let before = from.min(100_000_000).saturating_sub(1);
-        cut_next_row(row(&self.slots, before, |_| 0), from)
+        cut_next_row(row(&self.slots, tick_before(from), |_| 0), from)
     }
 
     /// The unit is what one task adds to a question, which is about one division.

@@ -5,8 +5,9 @@ ghost use Rattle.loads.specs.TrainLaws.{train_laws};
 use super::RampTrain;
 use super::rows::Counted;
 use crate::ticks::Ticks;
+use theory::limits::CUT;
 use theory::load::Load;
-use theory::rows::{Effort, ROW, cut_next_row, cut_row};
+use theory::rows::{Effort, ROW, cut_next_row, cut_row, tick_before};
 
 /// A train is a load: each amount is the largest over the frames that the circle can begin with.
 impl Load for RampTrain {
@@ -15,7 +16,7 @@ impl Load for RampTrain {
     ghost lawful = { λ x. train_laws (frames_of x) (frames_ranged x) };
 
     fn due(&self, t: u64) -> u64 {
-        self.most_due(Ticks::upto(t)).min(1 << 40)
+        self.most_due(Ticks::upto(t)).min(CUT)
     }
 
     #[tactic(auto, unfolding(crate::specs::Train::train_amounts))]
@@ -24,7 +25,7 @@ impl Load for RampTrain {
     }
 
     fn ready(&self, s: u64) -> u64 {
-        self.most_ready(Ticks::upto(s)).min(1 << 40)
+        self.most_ready(Ticks::upto(s)).min(CUT)
     }
 
     fn last_mark(&self, t: u64) -> Option<u64> {
@@ -41,8 +42,7 @@ impl Load for RampTrain {
     }
 
     fn ready_row(&self, from: u64) -> [u64; ROW] {
-        let before = from.min(100_000_000).saturating_sub(1);
-        cut_next_row(self.row_of(Counted::Ready, before), from)
+        cut_next_row(self.row_of(Counted::Ready, tick_before(from)), from)
     }
 
     fn effort(&self) -> Effort {

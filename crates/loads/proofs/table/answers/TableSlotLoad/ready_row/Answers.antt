@@ -1,5 +1,5 @@
 -- The row of what the tasks of the table grow to from tick 0 on is the row, one tick later, of its ready.
-use Rattle.std.proofs.Common.{◌≡◌, ◌-◌, min, sym, ◌∙◌, refl, arith, rules, List, [], ◌∷◌}
+use Rattle.std.proofs.Common.{◌≡◌, sym, ◌∙◌, refl, arith, rules, List, [], ◌∷◌}
 use Rattle.theory.specs.Rows.{uncut_row as row}
 use Rattle.loads.specs.Params.{TaskParams}
 use Rattle.loads.specs.Tasks.{tasks_meaning, tasks_amounts, total, task_ready}
@@ -17,9 +17,8 @@ pub returns : goal.returns
 unfolding tasks_meaning tasks_amounts
 returns c =
     let slots = c.args.self.now.slots in
-    let before : c.saturating_sub-before.result ≡ min c.args.from 100000000 - 1 = omega (arith, c.saturating_sub-before.ensures, c.min.ensures) in
     c.cut_next_row.ensures (λ s. total (λ x. task_ready x s) (tasks_in slots)) (idle (tasks_in slots)) (
     c.row.ensures (λ x. 0) (λ x r m. search rules)
-    ∙ (λ i. row (λ t. grown_all (λ x. 0) t (slots_stand slots i)) c.saturating_sub-before.result)
-    ∙ (λ i. row (λ t. sym (ready_grown_all (tasks_in slots) (slots_ranged slots) t) i) (before i))
+    ∙ (λ i. row (λ t. grown_all (λ x. 0) t (slots_stand slots i)) c.tick_before.result)
+    ∙ (λ i. row (λ t. sym (ready_grown_all (tasks_in slots) (slots_ranged slots) t) i) (c.tick_before.ensures i))
     )

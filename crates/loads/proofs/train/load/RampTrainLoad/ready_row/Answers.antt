@@ -1,4 +1,4 @@
-use Rattle.std.proofs.Common.{◌≡◌, ◌+◌, ◌-◌, min, ap, ◌∙◌, arith}
+use Rattle.std.proofs.Common.{◌+◌, ap, ◌∙◌}
 use mathlib.Core.Path.{fun_ext}
 use Rattle.theory.specs.Rows.{uncut_row as row}
 use Rattle.loads.specs.Train.{frames_of, train_amounts}
@@ -10,8 +10,7 @@ use Rattle.loads.proofs.train.load.RampTrainLoad.ready_row.Goals as goal
 pub returns : goal.returns
 returns c =
     let fs = frames_of c.args.self.now in
-    let b : c.saturating_sub-before.result ≡ min c.args.from 100000000 - 1 = omega (arith, c.saturating_sub-before.ensures, c.min.ensures) in
     c.cut_next_row.ensures (train_amounts fs).ready (ready_none fs) (
-    c.row_of.ensures ∙ ap (λ g. row g c.saturating_sub-before.result) (fun_ext (λ s. ready_row fs (frames_ranged c.args.self.now) s))
-    ∙ ap (row (λ s. (train_amounts fs).ready (s + 1))) b
+    c.row_of.ensures ∙ ap (λ g. row g c.tick_before.result) (fun_ext (λ s. ready_row fs (frames_ranged c.args.self.now) s))
+    ∙ ap (row (λ s. (train_amounts fs).ready (s + 1))) c.tick_before.ensures
     )

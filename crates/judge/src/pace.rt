@@ -1,4 +1,5 @@
-use theory::rows::{ROW, Rows};
+use theory::load::Load;
+use theory::rows::ROW;
 
 /// After how many steps a search or a walk looks how far they went.
 const STEPS: u64 = 16;
@@ -17,12 +18,6 @@ pub(crate) struct Pace {
     after: u64,
 }
 
-/// How many questions take as long as a row, by measurement: eight, and as many more as go through 64 tasks and frames in
-/// all.
-fn questions<L: Rows>(load: &L) -> u64 {
-    8 + 64 / load.elements().max(1)
-}
-
 impl Pace {
     /// Before the first step.
     pub(crate) fn new() -> Pace {
@@ -34,15 +29,20 @@ impl Pace {
     }
 
     /// Whether a row would now be faster than steps on this load, after one more step, of `ticks` ticks. That is looked at
-    /// after every 16 steps, and after each step while a row was faster.
-    pub(crate) fn is_slow<L: Rows>(&mut self, load: &L, ticks: u64) -> bool {
+    /// after every 16 steps, and after each step while a row was faster. Where a row takes 256 questions, it never is.
+    pub(crate) fn is_slow<L: Load>(&mut self, load: &L, ticks: u64) -> bool {
         self.gone = self.gone.saturating_add(ticks);
         self.taken = self.taken.saturating_add(1);
         if self.taken < self.after {
             return false;
         }
-        let far = self.taken.saturating_mul(ROW as u64);
-        let slow = self.gone.saturating_mul(questions(load)) < far;
+        let effort = load.effort();
+        let by_row = self.gone.saturating_mul(effort.row);
+        let by_steps = self
+            .taken
+            .saturating_mul(ROW as u64)
+            .saturating_mul(effort.question);
+        let slow = by_row < by_steps;
         self.gone = 0;
         self.taken = 0;
         self.after = if slow { 1 } else { STEPS };

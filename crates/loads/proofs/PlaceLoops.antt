@@ -1,5 +1,5 @@
 -- A loop over places in which tasks can stand: what is found so far, and what the tasks ahead add to it, make the whole.
-use Rattle.std.proofs.Common.{◌≡◌, refl, ℕ, ◌+◌, ◌<◌, ◌≤◌, min, max, List, [], ◌∷◌, map, length, get_or, drop, Some, None, Option, option_map, filter_map, sym, ap, ◌∙◌, arith}
+use Rattle.std.proofs.Common.{◌≡◌, refl, ℕ, ◌+◌, ◌<◌, ◌≤◌, min, max, List, [], ◌∷◌, length, get_or, drop, Some, None, Option, option_map, filter_map, sym, ap, ◌∙◌, arith}
 use Rattle.std.specs.Borrow.{Bor}
 use Rattle.std.specs.List.{cons_option}
 use Rattle.std.proofs.lemmas.List.{at_drop_more, at_drop_all}
@@ -70,11 +70,7 @@ module _ {P : Type 0} (held : P → Option TaskParams) (ps : List P) (i : ℕ) w
           ∙ ap (λ (xs : List TaskParams). later a (last_of xs t)) (sym (one_ahead (Some x) q))
           ∙ v
 
--- The tasks of a list are its tasks in their places, and the tasks of slots those of the filled ones.
-pub tasks_stand : (xs : List Task) → filter_map (λ (x : Task). Some (task_params x)) xs ≡ map task_params xs
-tasks_stand [] = refl
-tasks_stand (x ∷ xs) = ap (λ (ps : List TaskParams). task_params x ∷ ps) (tasks_stand xs)
-
+-- The tasks of slots in their places are those of the filled ones.
 slot_stands : (o : Option Entry) (ps qs : List TaskParams) → ps ≡ qs → cons_option (held_params o) ps ≡ put_before (held_content o) qs
 slot_stands None ps qs e = e
 slot_stands (Some k) ps qs e = ap (λ (xs : List TaskParams). task_params k.task ∷ xs) e

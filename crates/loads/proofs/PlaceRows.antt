@@ -6,7 +6,7 @@ use Rattle.std.proofs.Math.Nat.{add-div_right}
 use Rattle.std.proofs.lemmas.Bool.{cases_lt, le-leb, lt-leb}
 use Rattle.std.proofs.lemmas.List.FromFn.{fill_by_all, length-map-range_with_len, get_or-map-range_with_len}
 use Rattle.theory.specs.Jobs.{All}
-use Rattle.theory.specs.Rows.{row}
+use Rattle.theory.specs.Rows.{uncut_row as row}
 use Rattle.loads.specs.declared.task.Task.{Task}
 use Rattle.loads.specs.Params.{TaskParams, TaskRanges}
 use Rattle.loads.specs.Places.{params_behind}

@@ -13,7 +13,7 @@ topped_zeros (suc n) zero = refl
 topped_zeros (suc n) (suc i) = omega (arith, topped_zeros n i)
 
 -- with another number at place j
-topped_before : (xs : List ℕ) (j v i : ℕ) → i < j → topped (set xs j v) i ≡ topped xs i
+pub topped_before : (xs : List ℕ) (j v i : ℕ) → i < j → topped (set xs j v) i ≡ topped xs i
 unfolding topped
 topped_before [] j v i h = refl
 topped_before (x ∷ xs) zero v i h = absurd (omega arith)
@@ -21,7 +21,7 @@ topped_before (x ∷ xs) (suc j) v zero h = refl
 topped_before (x ∷ xs) (suc j) v (suc i) h = ap (max x) (topped_before xs j v i (omega arith))
 
 -- with the number at place j raised to v
-topped_after : (xs : List ℕ) (j v w i : ℕ) → j < length xs → j ≤ i → w ≡ max (get_or xs j 0) v → topped (set xs j w) i ≡ max (topped xs i) v
+pub topped_after : (xs : List ℕ) (j v w i : ℕ) → j < length xs → j ≤ i → w ≡ max (get_or xs j 0) v → topped (set xs j w) i ≡ max (topped xs i) v
 unfolding topped
 topped_after [] j v w i h l e = absurd (omega arith)
 topped_after (x ∷ xs) zero v w zero h l e = e

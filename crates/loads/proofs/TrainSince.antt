@@ -3,7 +3,7 @@ use Rattle.std.proofs.Common.{◌≡◌, ℕ, zero, suc, ◌+◌, ◌-◌, ◌*�
 use lib.ListN.{length-map}
 use Rattle.std.specs.List.{sum_by, range_with_len}
 use Rattle.std.proofs.lemmas.List.Sums.{sum_by-cons}
-use Rattle.theory.specs.Rows.{row}
+use Rattle.theory.specs.Rows.{uncut_row as row}
 use Rattle.loads.specs.declared.frame.Frame.{Frame}
 use Rattle.loads.specs.declared.train.rest.FrameRest.{FrameRest}
 use Rattle.loads.specs.declared.train.rows.Counted.{Counted}

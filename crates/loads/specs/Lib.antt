@@ -5,7 +5,6 @@ pub mod Making
 pub mod Tasks
 pub mod Places
 pub mod FixedVecs
-pub mod Lists
 pub mod Channels
 pub mod Slots
 pub mod Train
@@ -19,13 +18,11 @@ pub mod Cases
 pub mod Quotients
 pub mod OneTask
 pub mod TaskJobs
-pub mod TaskList
+pub mod TasksLaws
 pub mod TaskMarks
-pub mod ListRanges
 pub mod Ranged
 pub mod TrainRanges
 pub mod TrainCounts
 pub mod TrainCircle
 pub mod TrainTally
 pub mod TrainLaws
-pub mod Held

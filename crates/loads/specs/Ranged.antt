@@ -9,7 +9,7 @@ use Rattle.theory.specs.Meaning.{Laws}
 use Rattle.loads.specs.Params.{TaskParams, TaskRanges}
 use Rattle.loads.specs.Making.{task_params}
 use Rattle.loads.specs.Channels.{Content, Channels, filled, put_before, held_content, slot_content, channels, table}
-use Rattle.loads.specs.TaskList.{tasks_laws}
+use Rattle.loads.specs.TasksLaws.{tasks_laws}
 
 pub task_ranged : (x : Task) → TaskRanges (task_params x)
 task_ranged x = record {

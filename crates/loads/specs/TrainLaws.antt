@@ -88,7 +88,7 @@ due_mono (f ∷ fs) r s t h =
     (λ k _. tally_mono falls (cycle (f ∷ fs)) s 0 t 0 (circle_from k (f ∷ fs)) (cycle_pos f fs r.0) (omega arith) (omega arith)) in
     omega (arith, due_is (f ∷ fs) s, due_is (f ∷ fs) t)
 
-ready_none : (fs : List FrameParams) → (train_amounts fs).ready 0 ≡ 0
+pub ready_none : (fs : List FrameParams) → (train_amounts fs).ready 0 ≡ 0
 unfolding train_amounts
 ready_none fs =
     let l = largest_le (λ k. ready_from (cycle fs) 0 0 (circle_from k fs)) (length fs) 0 (λ k h. omega (arith, ready_zero (cycle fs) 0 (circle_from k fs))) in

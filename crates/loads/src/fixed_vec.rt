@@ -25,7 +25,7 @@ impl<T: Copy, const N: usize> Clone for FixedVec<T, N> {
 }
 
 impl<T: Copy, const N: usize> FixedVec<T, N> {
-    ghost use Rattle.std.specs.Prelude.{[], take};
+    ghost use Rattle.std.specs.Prelude.{[]};
     ghost use Rattle.loads.specs.FixedVecs.{items_of, added};
 
     /// Without values: the places that are not in use hold `blank`.
@@ -58,10 +58,10 @@ impl<T: Copy, const N: usize> FixedVec<T, N> {
         Ok(())
     }
 
-    /// Keeps the first n values only.
-    pub(crate) fn truncate(&mut self, n: usize)
-        ensures { items_of self.new ≡ take n (items_of self.old) }
+    /// Takes all values out.
+    pub(crate) fn clear(&mut self)
+        ensures { items_of self.new ≡ [] }
     {
-        self.count = self.count.min(n);
+        self.count = 0;
     }
 }

@@ -1,11 +1,10 @@
-//! The records of a plan and the kinds of load: tasks in a table of 64 channels or in a list, and frames in a ramp train.
+//! The records of a plan and the kinds of load: tasks in a table of 64 channels, and frames in a ramp train.
 
 #![tactic(auto)]
 
 pub mod entry;
 mod fixed_vec;
 pub mod frame;
-pub mod list;
 pub mod marks;
 mod places;
 mod ranges;

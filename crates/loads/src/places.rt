@@ -1,16 +1,18 @@
 ghost use Rattle.std.specs.Prelude.{◌≡◌, ℕ, ◌^◌, min, Option, filter_map};
 ghost use Rattle.std.specs.Option.{option_map};
 ghost use Rattle.theory.specs.Meaning.{last_mark};
-ghost use Rattle.theory.specs.Rows.{row};
+ghost use Rattle.theory.specs.Rows.{uncut_row as row};
 ghost use Rattle.loads.specs.Params.{TaskParams};
-ghost use Rattle.loads.specs.Tasks.{total, largest, any, task_mark};
+ghost use Rattle.loads.specs.Tasks.{total, largest, any, task_held, task_mark};
 ghost use Rattle.loads.specs.Places.{Gives, params_behind};
 ghost use Rattle.loads.specs.Steps.{grown};
 
 use crate::marks::later;
-use crate::steps::{CUT, Steps};
+use crate::steps::Steps;
+use crate::steps::tops::Tops;
 use crate::task::Task;
 use crate::ticks::Ticks;
+use theory::limits::CUT;
 use theory::rows::ROW;
 
 /// A place in which a task can stand.
@@ -78,4 +80,18 @@ pub(crate) fn row<P: Place, F: Fn(&Task) -> u32>(places: &[P], from: u64, first:
         }
     }
     steps.row()
+}
+
+/// The row, from `from` on, of the longest section that the tasks of these places can hold, cut at 2^40.
+pub(crate) fn held_row<P: Place>(places: &[P], from: u64) -> [u64; ROW]
+    ensures { result ≡ row (λ t. largest (λ x. task_held x t) (filter_map P.stands places.now)) from }
+{
+    let from = Ticks::upto(from);
+    let mut tops = Tops::new();
+    for place in places {
+        if let Some(task) = place.task() {
+            task.hold(from, &mut tops);
+        }
+    }
+    tops.row_back()
 }

@@ -18,7 +18,7 @@ pub enum Refusal {
     Section,
     /// A train holds sixteen frames already.
     TrainFull,
-    /// The channel is above 63, or a list of tasks is full.
+    /// The channel is above 63.
     NoChannel,
     /// The channel is filled.
     ChannelFilled,

@@ -1,9 +1,7 @@
 ghost use Rattle.std.specs.Prelude.{◌≡◌, ℕ, ◌<◌, ◌≤◌, length, slice_index};
 
+use theory::limits::CUT;
 use theory::rows::ROW;
-
-/// The largest amount that a question answers.
-pub(crate) const CUT: u64 = 1 << 40;
 
 /// What grows in steps, over a row of ticks: by how much at each tick of the row, the first one with what it has
 /// grown to by then, each cut at 2^40, which is 1,099,511,627,776; and the last place at which it may grow.

@@ -1,4 +1,5 @@
 use std::marker::Model;
+use theory::limits::LAST;
 
 /// A number of ticks, at most 100,000,000: a question looks no further. In a contract it is that number.
 #[derive(Clone, Copy)]
@@ -25,9 +26,7 @@ impl Ticks {
     pub(crate) fn upto(t: u64) -> Ticks
         ensures { result ≡ min t 100000000 }
     {
-        Ticks {
-            count: t.min(100_000_000),
-        }
+        Ticks { count: t.min(LAST) }
     }
 
     /// The number.

@@ -15,7 +15,7 @@ use Rattle.loads.specs.declared.entry.Entry.{Entry}
 use Rattle.loads.specs.Params.{TaskParams}
 use Rattle.loads.specs.Tasks.{tasks_meaning, tasks_amounts}
 use Rattle.loads.specs.Channels.{Content, filled, table, blank, content}
-use Rattle.loads.specs.TaskList.{tasks_laws}
+use Rattle.loads.specs.TasksLaws.{tasks_laws}
 use Rattle.loads.proofs.Fewer.{fewer, none_filled}
 use Rattle.loads.specs.Ranged.{Ranged, blank_ranged, set_ranged, task_ranged}
 use Rattle.plan.specs.declared.call.Call.{Call}

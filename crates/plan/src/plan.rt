@@ -6,6 +6,7 @@ ghost use Rattle.plan.specs.Ledger.{ledger, guest, plan};
 use crate::beside::Beside;
 use loads::table::TaskTable;
 use theory::load::Load;
+use theory::rows::{Effort, ROW};
 
 /// A task table beside a guest, which is any load. A plan is again a load, and so can be another plan's guest.
 #[derive(Drop)]
@@ -33,6 +34,22 @@ impl<G: Load> Load for Plan<G> {
 
     fn last_mark(&self, t: u64) -> Option<u64> {
         self.loads.last_mark(t)
+    }
+
+    fn due_row(&self, from: u64) -> [u64; ROW] {
+        self.loads.due_row(from)
+    }
+
+    fn held_row(&self, from: u64) -> [u64; ROW] {
+        self.loads.held_row(from)
+    }
+
+    fn ready_row(&self, from: u64) -> [u64; ROW] {
+        self.loads.ready_row(from)
+    }
+
+    fn effort(&self) -> Effort {
+        self.loads.effort()
     }
 }
 

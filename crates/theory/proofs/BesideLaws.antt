@@ -1,5 +1,5 @@
 -- The laws of two loads side by side, and of no load.
-use Rattle.std.proofs.Common.{◌≡◌, ℕ, ◌+◌, ◌≤◌, ◌⊎◌, List, [], refl, subst, inl, inr, arith}
+use Rattle.std.proofs.Common.{◌≡◌, ℕ, ◌+◌, ◌⊎◌, List, [], refl, subst, inl, inr, arith}
 use Rattle.std.proofs.lemmas.Bool.{or_parts, or_from}
 use Rattle.theory.specs.Jobs.{Job, All, Among, Proper, work_in}
 use Rattle.theory.specs.Meaning.{Amounts, Rules, Meaning, Laws}
@@ -99,8 +99,3 @@ parts_accepted a b la lb h =
       accepted_lower a.amounts (beside a b).amounts la.rules r (left_lower a b) h,
       accepted_lower b.amounts (beside a b).amounts lb.rules r (right_lower a b) h,
     )
-
--- Where what is held never grows, neither does the larger of two.
-pub beside_falls : (a b : Meaning) (s t : ℕ) → a.amounts.held t ≤ a.amounts.held s → b.amounts.held t ≤ b.amounts.held s → (beside a b).amounts.held t ≤ (beside a b).amounts.held s
-unfolding beside both
-beside_falls a b s t h k = omega arith

@@ -1,30 +1,70 @@
-ghost use Rattle.std.specs.Prelude.{◌≡◌, ℕ, ◌+◌, ◌≤◌, min};
-ghost use Rattle.theory.specs.Rows.{row};
+ghost use Rattle.std.specs.Prelude.{◌≡◌, ℕ, ◌+◌, ◌-◌, min};
+ghost use Rattle.theory.specs.Rows.{row, uncut_row, Asks};
 
-use crate::load::Load;
+use crate::limits::LAST;
 
 /// How many ticks a row has.
 pub const ROW: usize = 256;
 
-/// A load that answers due and ready for a row of ticks at once: no new questions, but the same at 256 lengths, in less
-/// time for each. A `from` above 100,000,000 counts as 100,000,000, and an amount above 2^40 is answered as 2^40.
-pub trait Rows: Load {
-    /// A number that the impl names, meant as that of its tasks and frames. It tells about how long a question takes;
-    /// nothing else rests on it.
-    ghost size: { Self → ℕ };
+/// A row by single questions: what the closure answers at `from`, `from + 1`, .. `from + 255`.
+pub(crate) fn row_by<F: Fn(u64) -> u64>(from: u64, question: F) -> [u64; ROW]
+    requires { F.IsAlwaysCallable question }
+    ensures { (f : ℕ → ℕ) → Asks F.Fn question f → result ≡ row f from }
+{
+    let mut answers = [0; ROW];
+    for i in 0..ROW {
+        answers[i] = question(from.saturating_add(i as u64));
+    }
+    answers
+}
 
-    /// The work due within each of the lengths `from`, `from + 1`, .. `from + 255`.
-    fn due_row(&self, from: u64) -> [u64; ROW]
-        ensures { result ≡ row (Self.meaning self.now).amounts.due from };
+/// The row of a load that finds its rows as if 100,000,000 were a tick as any other: beyond it each place takes what
+/// stands there.
+pub fn cut_row(uncut: [u64; ROW], from: u64) -> [u64; ROW]
+    ensures { (f : ℕ → ℕ) → uncut ≡ uncut_row f from → result ≡ row f from }
+{
+    let mut row = uncut;
+    let last = (LAST - from.min(LAST)).min(ROW as u64 - 1) as usize;
+    for i in last + 1..ROW {
+        row[i] = row[last];
+    }
+    row
+}
 
-    /// The work ready within each of the lengths `from + 1`, `from + 2`, .. `from + 256`.
-    fn ready_row(&self, from: u64) -> [u64; ROW]
-        ensures { result ≡ row (λ n. (Self.meaning self.now).amounts.ready (n + 1)) from };
+/// A row moved on by one place, with nothing at tick 0.
+fn moved_row(uncut: &[u64; ROW]) -> [u64; ROW]
+    ensures { (f : ℕ → ℕ) → f 0 ≡ 0 → uncut.now ≡ uncut_row (λ n. f (n + 1)) 0 → result ≡ row f 0 }
+{
+    let mut row = [0; ROW];
+    for i in 1..ROW {
+        row[i] = uncut[i - 1];
+    }
+    row
+}
 
-    /// That number; one above the largest `u64` counts as that.
-    fn elements(&self) -> u64
-        ensures { result ≡ min (size self.now) 18446744073709551615 };
+/// One tick before `from`, where the row begins that `cut_next_row` takes.
+pub fn tick_before(from: u64) -> u64
+    ensures { result ≡ min from 100000000 - 1 }
+{
+    from.min(LAST).saturating_sub(1)
+}
 
-    /// What is held never grows with the length, so within the lengths of a row no more is held than within the least.
-    ghost held_falls: { (x : Self) → (s t : ℕ) → s ≤ t → (Self.meaning x).amounts.held t ≤ (Self.meaning x).amounts.held s };
+/// As `cut_row`, from an uncut row that begins one tick earlier and has at each tick what is to stand at the next one: so
+/// a load can find what is ready within t + 1 ticks by what is released up to tick t.
+pub fn cut_next_row(uncut: [u64; ROW], from: u64) -> [u64; ROW]
+    ensures { (f : ℕ → ℕ) → f 0 ≡ 0 → uncut ≡ uncut_row (λ n. f (n + 1)) (min from 100000000 - 1) → result ≡ row f from }
+{
+    if from == 0 {
+        moved_row(&uncut)
+    } else {
+        cut_row(uncut, from)
+    }
+}
+
+/// About how long a single question and a row take, in any unit, the same for both. It decides only which of two ways with
+/// the same result is taken, so nothing is said of it.
+#[derive(Clone, Copy, Debug)]
+pub struct Effort {
+    pub question: u64,
+    pub row: u64,
 }

@@ -1,7 +1,7 @@
 ghost use Rattle.std.specs.Prelude.{◌≡◌, ℕ, ◌+◌, ◌-◌, ◌^◌, ◌<◌, ◌≤◌, min, map, slice_index};
 ghost use Rattle.std.specs.List.{range_with_len};
 
-use super::CUT;
+use theory::limits::CUT;
 use theory::rows::ROW;
 
 /// Fills a row from place `until` on, where each place has what the one `round` places before it has and `more` more,

@@ -2,10 +2,11 @@ ghost use Rattle.loads.specs.Channels.{table, channels, slot_params};
 ghost use Rattle.loads.specs.Ranged.{table_laws};
 
 use super::{Slot, Table};
-use crate::places::{Place, largest, latest, total};
+use crate::places::{Place, held_row, largest, latest, row, total};
 use crate::task::Task;
 use crate::ticks::Ticks;
 use theory::load::Load;
+use theory::rows::{Effort, ROW, cut_next_row, cut_row, tick_before};
 
 /// A channel is a place in which a task can stand.
 impl Place for Slot {
@@ -40,5 +41,27 @@ impl Load for Table<Slot> {
     fn last_mark(&self, t: u64) -> Option<u64> {
         let t = Ticks::upto(t);
         latest(&self.slots, |task| task.last_mark(t))
+    }
+    /// Counted from the first arrival, jobs fall due at D, D + T, ..
+    fn due_row(&self, from: u64) -> [u64; ROW] {
+        cut_row(row(&self.slots, from, |task| task.deadline()), from)
+    }
+
+    fn held_row(&self, from: u64) -> [u64; ROW] {
+        cut_row(held_row(&self.slots, from), from)
+    }
+
+    /// Counted from the first arrival, jobs are released at 0, T, .., and t + 1 ticks have what is released up to tick t.
+    fn ready_row(&self, from: u64) -> [u64; ROW] {
+        cut_next_row(row(&self.slots, tick_before(from), |_| 0), from)
+    }
+
+    /// The unit is what one task adds to a question, which is about one division.
+    fn effort(&self) -> Effort {
+        let tasks = self.slots.iter().filter(|slot| slot.held.is_some()).count() as u64;
+        Effort {
+            question: tasks.saturating_add(8),
+            row: tasks.saturating_mul(8).saturating_add(72),
+        }
     }
 }

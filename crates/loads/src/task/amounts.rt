@@ -1,23 +1,14 @@
-ghost use Rattle.std.specs.Prelude.{◌≡◌, ℕ, ◌+◌, ◌-◌, ◌<◌, min, Some};
+ghost use Rattle.std.specs.Prelude.{◌≡◌, ℕ, ◌+◌, ◌-◌, ◌<◌, max, min};
 ghost use Rattle.theory.specs.Meaning.{last_mark};
 ghost use Rattle.loads.specs.Making.{task_params};
 ghost use Rattle.loads.specs.Tasks.{task_due, task_held, task_ready, task_mark};
-ghost use Rattle.loads.specs.Steps.{reached, grown};
+ghost use Rattle.loads.specs.Steps.{reached, topped, grown};
 
 use super::Task;
-use crate::places::Place;
 use crate::steps::Steps;
+use crate::steps::tops::Tops;
 use crate::ticks::Ticks;
 use theory::rows::ROW;
-
-/// A task alone is a place as well: it stands there itself.
-impl Place for Task {
-    ghost stands = { λ x. Some (task_params x) };
-
-    fn task(&self) -> Option<&Task> {
-        Some(self)
-    }
-}
 
 impl Task {
     /// D − J: the least length within which a job of the task can be released and fall due.
@@ -83,5 +74,15 @@ impl Task {
             u64::from(self.cost),
             ROW,
         );
+    }
+
+    /// Raises, from the end of the row that begins at `from`, each tick at which the section is held to it.
+    pub(crate) fn hold(&self, from: Ticks, tops: &mut Tops)
+        ensures { (i : ℕ) → i < 256 → topped tops.new.at (255 - i) ≡ max (topped tops.old.at (255 - i)) (task_held (task_params self.now) (from + i)) }
+    {
+        let ticks = self.start().saturating_sub(from.count()).min(ROW as u64);
+        if ticks > 0 {
+            tops.raise_from(ROW - ticks as usize, u64::from(self.section));
+        }
     }
 }

@@ -34,20 +34,6 @@ impl Task {
         })
     }
 
-    /// The task with the least numbers; it fills the places of a list that are not in use. It is no `Default`, which
-    /// everyone could call: there is no task that one would expect where none is given.
-    pub(crate) fn least() -> Task
-        ensures { task_params result ≡ task 1 1 1 0 0 }
-    {
-        Task {
-            cost: 1,
-            period: 1,
-            deadline: 1,
-            jitter: 0,
-            section: 0,
-        }
-    }
-
     /// The cost C.
     pub fn cost(&self) -> u32
         ensures { result ≡ self.now.cost }

@@ -3,8 +3,11 @@ ghost use Rattle.loads.specs.TrainRanges.{frames_ranged};
 ghost use Rattle.loads.specs.TrainLaws.{train_laws};
 
 use super::RampTrain;
+use super::rows::Counted;
 use crate::ticks::Ticks;
+use theory::limits::CUT;
 use theory::load::Load;
+use theory::rows::{Effort, ROW, cut_next_row, cut_row, tick_before};
 
 /// A train is a load: each amount is the largest over the frames that the circle can begin with.
 impl Load for RampTrain {
@@ -13,7 +16,7 @@ impl Load for RampTrain {
     ghost lawful = { λ x. train_laws (frames_of x) (frames_ranged x) };
 
     fn due(&self, t: u64) -> u64 {
-        self.most_due(Ticks::upto(t)).min(1 << 40)
+        self.most_due(Ticks::upto(t)).min(CUT)
     }
 
     #[tactic(auto, unfolding(crate::specs::Train::train_amounts))]
@@ -22,10 +25,31 @@ impl Load for RampTrain {
     }
 
     fn ready(&self, s: u64) -> u64 {
-        self.most_ready(Ticks::upto(s)).min(1 << 40)
+        self.most_ready(Ticks::upto(s)).min(CUT)
     }
 
     fn last_mark(&self, t: u64) -> Option<u64> {
         self.last_below(Ticks::upto(t))
+    }
+
+    fn due_row(&self, from: u64) -> [u64; ROW] {
+        cut_row(self.row_of(Counted::Due, from), from)
+    }
+
+    #[tactic(auto, unfolding(crate::specs::Train::train_amounts, theory::specs::Rows::row))]
+    fn held_row(&self, from: u64) -> [u64; ROW] {
+        [0; ROW]
+    }
+
+    fn ready_row(&self, from: u64) -> [u64; ROW] {
+        cut_next_row(self.row_of(Counted::Ready, tick_before(from)), from)
+    }
+
+    fn effort(&self) -> Effort {
+        let frames = self.frames().len() as u64;
+        Effort {
+            question: frames,
+            row: frames.saturating_mul(8).saturating_add(64),
+        }
     }
 }

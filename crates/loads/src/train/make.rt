@@ -52,7 +52,7 @@ impl RampTrain {
     pub fn clear(&mut self)
         ensures { frames_of self.new ≡ [] }
     {
-        self.frames.truncate(0);
+        self.frames.clear();
         self.round = 0;
         self.work = 0;
     }

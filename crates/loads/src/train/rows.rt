@@ -1,7 +1,6 @@
 ghost use Rattle.std.specs.Prelude.{◌≡◌, ◌≤◌, length};
 ghost use Rattle.loads.specs.Making.{frame_params};
 ghost use Rattle.loads.specs.Train.{cycle, frames_of};
-ghost use Rattle.loads.specs.Held.{nothing_falls};
 ghost use Rattle.loads.specs.TrainRows.{lag};
 
 use super::RampTrain;
@@ -9,11 +8,11 @@ use super::rest::FrameRest;
 use super::turns::Turns;
 use crate::frame::Frame;
 use crate::ticks::Ticks;
-use theory::rows::{ROW, Rows};
+use theory::rows::ROW;
 
 /// Which work of a frame is counted: what is due, from the frame's deadline on, or what is ready, from its release on.
 #[derive(Clone, Copy)]
-enum Counted {
+pub(super) enum Counted {
     Due,
     Ready,
 }
@@ -32,14 +31,14 @@ impl Counted {
 }
 
 impl RampTrain {
-    ghost use Rattle.theory.specs.Rows.{row};
+    ghost use Rattle.theory.specs.Rows.{uncut_row as row};
     ghost use Rattle.loads.specs.Train.{circle_from, largest_of};
     ghost use Rattle.loads.specs.TrainTally.{tally};
 
     /// The largest work at each tick of the row that begins at `from`, over the frames that the circle can begin with.
     /// In each whole round from its lag up to `from` a frame counts once, in whichever circle: that work is found here, by
     /// one division for each frame. The row begins with it, and takes each frame as if it counted that many rounds later.
-    fn row_of(&self, counted: Counted, from: u64) -> [u64; ROW]
+    pub(super) fn row_of(&self, counted: Counted, from: u64) -> [u64; ROW]
         ensures { result ≡ row (λ t. largest_of (λ k. tally (lag counted) (cycle (frames_of self.now)) t 0 (circle_from k (frames_of self.now))) (length (frames_of self.now))) from }
     {
         let frames = self.frames();
@@ -64,25 +63,5 @@ impl RampTrain {
             base,
         }
         .most_row()
-    }
-}
-
-/// A row of ticks at once: the work of each circle that the train can take grows in steps, which are added up along the
-/// row.
-impl Rows for RampTrain {
-    ghost size = { λ r. length (frames_of r) };
-
-    ghost held_falls = { λ x. nothing_falls (frames_of x) };
-
-    fn due_row(&self, from: u64) -> [u64; ROW] {
-        self.row_of(Counted::Due, from)
-    }
-
-    fn ready_row(&self, from: u64) -> [u64; ROW] {
-        self.row_of(Counted::Ready, from)
-    }
-
-    fn elements(&self) -> u64 {
-        self.frames().len() as u64
     }
 }

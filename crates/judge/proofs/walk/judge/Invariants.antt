@@ -5,6 +5,5 @@ use Rattle.judge.proofs.walk.judge.Given as goal
 abbrev pub invariant-loop-next : goal.invariant-loop-next
 invariant-loop-next g l = Going (g.L.Load.meaning l.load).amounts l.busy l.next
 
--- Each step leaves fewer ticks below the walk.
 abbrev pub decreases-loop-next : goal.decreases-loop-next
 decreases-loop-next g l = left l.next

@@ -4,7 +4,7 @@ use Rattle.theory.specs.Beside.{beside}
 use Rattle.theory.proofs.Lower.{accepted_lower}
 use Rattle.theory.proofs.BesideLaws.{beside_laws, beside_lower}
 use Rattle.loads.specs.Channels.{filled, table}
-use Rattle.loads.specs.TaskList.{tasks_laws}
+use Rattle.loads.specs.TasksLaws.{tasks_laws}
 use Rattle.loads.proofs.Fewer.{fewer}
 use Rattle.loads.specs.Ranged.{set_ranged}
 use Rattle.loads.proofs.theorems.emptied_channel_keeps.Goals as goal

@@ -1,5 +1,5 @@
 -- Each clause is a theorem over lists of tasks.
-use Rattle.loads.specs.TaskList.{tasks_laws, none_same, more_same, marks_are}
+use Rattle.loads.specs.TasksLaws.{tasks_laws, none_same, more_same, marks_are}
 use Rattle.loads.proofs.theorems.tasks_are_lawful.Goals as goal
 
 pub returns : goal.returns

@@ -1,7 +1,6 @@
-use Rattle.std.proofs.Common.{◌≡◌, ◌+◌, ◌^◌, min, get_or, ap, ◌∙◌, arith, length-set}
-use Rattle.theory.specs.Rows.{row}
-use Rattle.theory.proofs.RowPlaces.{row_place}
-use Rattle.loads.proofs.Stepping.{row_more, row_whole}
+use Rattle.std.proofs.Common.{◌≡◌, ◌+◌, get_or, ap, ◌∙◌, arith, length-set}
+use Rattle.theory.specs.Meaning.{answered}
+use Rattle.theory.proofs.RowPlaces.{row_place, written_more, written_whole}
 use Rattle.plan.proofs.beside.row_sum.Goals as goal
 
 pub loop-i-preserved : goal.loop-i-preserved
@@ -10,14 +9,11 @@ loop-i-preserved c =
     record {
       places = omega (arith, length-set c.loop-i.sums i c.min.result, c.loop-i.invariant.places);
       written = λ f g w p q.
-          let x : get_or c.args.a.now i 0 ≡ min (f (min w 100000000 + i)) (2 ^ 40) = ap (λ xs. get_or xs i 0) p ∙ row_place f w i 0 c.loop-i-test.true in
-          let y : get_or c.args.b.now i 0 ≡ min (g (min w 100000000 + i)) (2 ^ 40) = ap (λ xs. get_or xs i 0) q ∙ row_place g w i 0 c.loop-i-test.true in
-          row_more (λ k. min (f (min w 100000000 + k) + g (min w 100000000 + k)) (2 ^ 40)) c.loop-i.sums i c.min.result (omega (arith, c.loop-i.invariant.places))
+          let x : get_or c.args.a.now i 0 ≡ answered f (w + i) = ap (λ xs. get_or xs i 0) p ∙ row_place f w i 0 c.loop-i-test.true in
+          let y : get_or c.args.b.now i 0 ≡ answered g (w + i) = ap (λ xs. get_or xs i 0) q ∙ row_place g w i 0 c.loop-i-test.true in
+          written_more (λ t. f t + g t) w c.loop-i.sums i c.min.result (omega (arith, c.loop-i.invariant.places))
           (omega (arith, x, y, c.saturating_add.ensures, c.min.ensures)) (c.loop-i.invariant.written f g w p q);
     }
 
 pub returns : goal.returns
-unfolding row
-returns c = λ f g w p q.
-    row_whole (λ k. min (f (min w 100000000 + k) + g (min w 100000000 + k)) (2 ^ 40)) c.loop-i.sums c.loop-i.i 256 (omega arith)
-    c.loop-i.invariant.places (c.loop-i.invariant.written f g w p q)
+returns c = λ f g w p q. written_whole (λ t. f t + g t) w c.loop-i.sums c.loop-i.i (omega arith) c.loop-i.invariant.places (c.loop-i.invariant.written f g w p q)

@@ -1,0 +1,9 @@
+use Rattle.theory.specs.Beside.{beside, both}
+use Rattle.plan.proofs.beside.BesideLoad.due_row.Goals as goal
+
+pub returns : goal.returns
+unfolding beside both
+returns g c =
+    let a = (g.A.Load.meaning c.args.self.now.first).amounts in
+    let b = (g.B.Load.meaning c.args.self.now.second).amounts in
+    c.row_sum.ensures a.due b.due c.args.from c.due_row.ensures c.due_row-2.ensures

@@ -1,4 +1,4 @@
-/* Lukwaizo for a host in C: whether a plan suffices for one processor under earliest deadline first.
+/* Lukwaizo for a host in C: whether one processor suffices for a plan under earliest deadline first.
  *
  * Link target/staticlib/libimage.a, which `tools/staticlib` writes. docs/HOST.md says how,
  * docs/IMAGE.md what the bytes of an image are, docs/REFUSALS.md what each number means.
@@ -27,7 +27,8 @@ enum {
     LUKWAIZO_FRAMES = 6,        /* there is a seventeenth frame */
     LUKWAIZO_CHANNEL = 7,       /* a channel is above 63 */
     LUKWAIZO_NOT_CLOSED = 10,   /* the busy period does not close by 100,000,000 ticks */
-    LUKWAIZO_LATE = 11,         /* more work may fall due within some time than fits in it */
+    LUKWAIZO_LATE = 11,         /* the work that may fall due within some time, and the longest section that
+                                   may be in its way, are counted as more than that time */
     LUKWAIZO_UNKNOWN_MARK = 12, /* two bytes at which a record should begin are no mark */
     LUKWAIZO_CUT = 13,          /* the image ends inside a mark or a record, or before an end mark */
     LUKWAIZO_AFTER_END = 14,    /* a byte follows the end mark */
@@ -49,8 +50,8 @@ enum {
  *
  * The call changes nothing that the caller can see. It takes no memory from the heap, keeps nothing
  * from one call to the next and calls nothing outside the library but memcpy and memset, so several
- * threads may call it at once. It always returns. How long it takes depends on the plan, not on the length of its image
- * alone: docs/DECISIONS.md says what bounds it.
+ * threads may call it at once. It always returns. How long it takes depends on the plan, not on the
+ * length of its image alone: docs/DECISIONS.md says what bounds it, docs/MEASURED.md what was measured.
  */
 uint32_t lukwaizo_check(const uint8_t *image, size_t length);
 

@@ -30,7 +30,7 @@ static const char *meaning(uint32_t code)
     case LUKWAIZO_FRAMES: return "refused: there is a seventeenth frame";
     case LUKWAIZO_CHANNEL: return "refused: a channel is above 63";
     case LUKWAIZO_NOT_CLOSED: return "refused: the busy period does not close";
-    case LUKWAIZO_LATE: return "late: more work may fall due within some time than fits in it";
+    case LUKWAIZO_LATE: return "late: a claim exceeds its tick";
     case LUKWAIZO_UNKNOWN_MARK: return "refused: a record begins with no known mark";
     case LUKWAIZO_CUT: return "refused: the image is cut";
     case LUKWAIZO_AFTER_END: return "refused: a byte follows the end mark";

@@ -1,5 +1,5 @@
 -- What the reading calls answer, and what train and plan hold then.
-use Rattle.std.specs.Prelude.{ℕ, ◌*◌, List, None, Ok, Err, Result}
+use Rattle.std.specs.Prelude.{ℕ, ◌*◌, List, None, Ok, Err, Option, Result}
 use Rattle.theory.specs.Meaning.{Meaning}
 use Rattle.loads.specs.declared.refusal.Refusal.{Refusal}
 use Rattle.loads.specs.declared.entry.Entry.{Entry}
@@ -50,17 +50,26 @@ abbrev pub at_offset : {X : Type 0} → Result X (ℕ × Refusal) → Result X P
 at_offset (Ok x) = Ok x
 at_offset (Err p) = Err (Refused p.1 (37 * p.0))
 
+-- The admitting of several tasks, with a refused one told so.
+abbrev pub told_at : InTurn → Result (Option ℕ) PlanFault × Channels
+told_at x = (at_offset x.0, x.1)
+
+-- The tasks of the records are admitted one after another, up to the first that is refused: the busy period of the plan
+-- with all of them (none where there are no tasks), or why and where one is refused; and the ledger then, which keeps the
+-- tasks of earlier records.
+abbrev pub admitted_to : Meaning → List Rec → Channels → Result (Option ℕ) PlanFault × Channels
+admitted_to g rs l = told_at (in_turn g 0 None (tasks_in rs) l)
+
 -- An answer without the value that it gives.
 abbrev pub valueless : {X : Type 0} → Result X PlanFault → Result (Unit {0}) PlanFault
 valueless (Ok x) = Ok tt
 valueless (Err e) = Err e
 
--- The admitting of tasks, as what filling answers.
+-- The admitting of several tasks, as what filling answers.
 abbrev pub filled_by : InTurn → Filled
 filled_by x = (valueless (at_offset x.0), x.1)
 
--- The tasks of the records are admitted one after another, up to the first that is refused: the answer, and the ledger
--- then, which keeps the tasks of earlier records.
+-- The same as `admitted_to`, and of the answer only whether all were admitted.
 abbrev pub entered : Meaning → List Rec → Channels → Filled
 entered g rs l = filled_by (in_turn g 0 None (tasks_in rs) l)
 

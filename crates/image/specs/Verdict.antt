@@ -2,13 +2,10 @@
 use Rattle.std.specs.Prelude.{◌≡◌, ℕ, ◌+◌, List, [], ◌∷◌, ◌++◌, Some, None, Ok, Err, codes, decimal, Option, Result}
 use Rattle.theory.specs.declared.verdict.Unfit.{Unfit}
 use Rattle.theory.specs.Meaning.{Meaning}
-use Rattle.theory.specs.Beside.{beside}
 use Rattle.theory.specs.Verdict.{busy, walk}
 use Rattle.theory.specs.Statements.{NeverLate}
 use Rattle.loads.specs.declared.refusal.Refusal.{Refusal}
 use Rattle.loads.specs.Refusals.{number, late_pair}
-use Rattle.loads.specs.Params.{TaskParams}
-use Rattle.loads.specs.Tasks.{tasks_meaning}
 use Rattle.loads.specs.Channels.{Channels, blank}
 use Rattle.loads.specs.Train.{train_meaning}
 use Rattle.plan.specs.Ledger.{plan, refusal_of}
@@ -21,7 +18,6 @@ use Rattle.format.specs.Faults.{plan_fault}
 use Rattle.format.specs.Records.{Rec, task_rec, frame_rec}
 use Rattle.format.specs.Decode.{decode, frames_in}
 use Rattle.format.specs.Fills.{Filled, entered}
-use Rattle.format.specs.Prefixes.{first_refused}
 
 -- The offset of the first frame among records from `at` on, or of their end.
 abbrev pub first_frame : ℕ → List Rec → ℕ
@@ -43,7 +39,7 @@ over_plan g (Ok u, l) = Ok (busy_or_zero (busy (plan g l).amounts))
 -- admitted in order over the train.
 abbrev pub over_train : List Rec → Result ℕ Unfit → Result ℕ PlanFault
 over_train rs (Err u) = Err (Refused (refusal_of u) (first_frame 0 rs))
-over_train rs (Ok w) = over_plan (train_meaning (frames_in rs)) (entered (train_meaning (frames_in rs)) 0 rs blank)
+over_train rs (Ok w) = over_plan (train_meaning (frames_in rs)) (entered (train_meaning (frames_in rs)) rs blank)
 
 -- The verdict on what was read: the fault, or that on the records, of which the train is judged first.
 abbrev pub over_records : Result (List Rec) RecordFault → Result ℕ PlanFault
@@ -54,23 +50,13 @@ over_records (Ok rs) = over_train rs (walk (train_meaning (frames_in rs)).amount
 unfoldable pub judged : List ℕ → Result ℕ PlanFault
 judged xs = over_records (decode xs)
 
--- The verdict by the first task that is refused: why and where it is; or if none is, the busy period of all of them
--- beside the guest.
-abbrev pub by_first : Meaning → List TaskParams → Option (Unfit × ℕ) → Result ℕ PlanFault
-by_first g ps None = Ok (busy_or_zero (busy (beside (tasks_meaning ps) g).amounts))
-by_first g ps (Some p) = Err (Refused (refusal_of p.0) p.1)
-
--- The same verdict as `over_train`, told by the tasks alone, where the train is accepted.
-abbrev pub one_by_one : Meaning → List TaskParams → Result ℕ PlanFault
-one_by_one g ps = by_first g ps (first_refused g 0 [] ps)
-
 -- What yes with w says of an image: it was read, all its tasks were admitted and stand in `ledger`, the busy period of
 -- that plan closes at w, and of the jobs that the plan permits none is ever late.
 pub record YesMeans (xs : List ℕ) (w : ℕ) : Type 0 where
   pub records : List Rec
   pub read : decode xs ≡ Ok records
   pub ledger : Channels
-  pub admitted_all : entered (train_meaning (frames_in records)) 0 records blank ≡ (Ok tt, ledger)
+  pub admitted_all : entered (train_meaning (frames_in records)) records blank ≡ (Ok tt, ledger)
   pub closes : busy (plan (train_meaning (frames_in records)) ledger).amounts ≡ Some w
   pub never_late : NeverLate (plan (train_meaning (frames_in records)) ledger)
 

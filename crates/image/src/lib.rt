@@ -1,4 +1,4 @@
-//! Plan images: read into a train and a plan, written from them, and judged.
+//! Plan images: checked, read into a train and a plan, written from them, and judged.
 
 #![tactic(auto)]
 
@@ -9,6 +9,6 @@ pub mod outcome;
 pub mod parts;
 pub mod read;
 mod read_task;
-mod tasks;
+mod records;
 pub mod verdict;
 pub mod write;

@@ -1,0 +1,59 @@
+ghost use Rattle.std.specs.Prelude.{◌≡◌, List};
+ghost use Rattle.loads.specs.Channels.{blank};
+ghost use Rattle.loads.specs.Train.{frames_of};
+ghost use Rattle.plan.specs.declared.call.Call.{Call as a_call};
+ghost use Rattle.plan.specs.Ledger.{ledger, after, guest};
+ghost use Rattle.format.specs.Decode.{decode, tasks_in, frames_in};
+ghost use Rattle.format.specs.Fills.{admitted_to, KeptAgain};
+ghost use Rattle.image.specs.Verdict.{first_frame};
+ghost use Rattle.image.specs.Whole.{records_of, read_whole};
+
+use super::Checked;
+use crate::parts::Parts;
+use crate::records::Records;
+use format::fault::{PlanFault, RecordFault};
+use format::part::TASK;
+use loads::train::RampTrain;
+use plan::plan::Plan;
+use theory::load::Load;
+
+/// Reads the whole image, record by record: its records, or the first fault.
+pub fn check<'a>(image: &'a [u8]) -> Result<Checked<'a>, RecordFault>
+    ensures { read_whole result ≡ decode image.now }
+{
+    let mut records = Records::new();
+    for part in Parts::new(image) {
+        records.add(part?)?;
+    }
+    Ok(Checked { image, records })
+}
+
+impl<'a> Checked<'a> {
+    /// The train of its frames.
+    pub fn train(&self) -> RampTrain
+        ensures { frames_of result ≡ frames_in (records_of self.now) }
+    {
+        self.records.train
+    }
+
+    /// Where its first frame begins, or the end mark if it has none: tasks come first.
+    pub fn first_frame(&self) -> usize
+        ensures { result ≡ first_frame 0 (records_of self.now) }
+    {
+        TASK * self.records.count
+    }
+
+    /// Admits its tasks into a plan, one after another, up to the first that is refused: the busy period of the plan with
+    /// all of them, in ticks (none where there are no tasks), or why and where one is refused. The plan keeps the tasks of
+    /// earlier records. That the guest stays is a fact about the call.
+    pub fn admit_to<G: Load>(&self, plan: &mut Plan<G>) -> Result<Option<u64>, PlanFault>
+        ensures says { (result, ledger plan.new) ≡ admitted_to (G.Load.meaning (guest plan.old)) (records_of self.now) (ledger plan.old) }
+        ensures guest { guest plan.new ≡ guest plan.old }
+        ensures kept { (before : List a_call) → ledger plan.old ≡ after (G.Load.meaning (guest plan.old)) blank before
+            → KeptAgain (G.Load.meaning (guest plan.old)) before (ledger plan.new) }
+    {
+        let entries = &self.records.tasks[..self.records.count];
+        plan.admit_all(entries)
+            .map_err(|(place, refusal)| PlanFault::Refused(refusal, TASK * place))
+    }
+}

@@ -1,0 +1,109 @@
+ghost use Rattle.std.specs.Prelude.{◌≡◌, [], IfOk, slice_index_or};
+ghost use Rattle.loads.specs.Making.{frame_params};
+ghost use Rattle.loads.specs.Train.{frames_of};
+ghost use Rattle.plan.specs.Admissions.{placed};
+ghost use Rattle.format.specs.Records.{task_rec, frame_rec, task_in, frame_in, start};
+ghost use Rattle.format.specs.Decode.{passed};
+ghost use Rattle.format.specs.Parts.{piece};
+ghost use Rattle.image.specs.Checked.{tasks_of, by_before, Added};
+
+use super::Records;
+use crate::read::{field, made_frame};
+use crate::read_task::made_task;
+use format::before::Before;
+use format::fault::RecordFault;
+use format::part::{FRAME, Part, TASK};
+use loads::entry::Entry;
+use loads::frame::Frame;
+use loads::refusal::Refusal;
+use loads::task::Task;
+use loads::train::RampTrain;
+use plan::label::is_label;
+
+/// What stands in the places that no task takes.
+fn unused() -> (u8, Entry) {
+    let task = Task::new(1, 1, 1, 0, 0).unwrap();
+    let label = [0; 16];
+    (0, Entry { label, task })
+}
+
+/// The checks on the record of a task, after what came before it: what has come before the next one, and what the record
+/// holds for its channel.
+fn pass_task(
+    before: Before,
+    bytes: &[u8; TASK],
+    at: usize,
+) -> Result<(Before, Entry), RecordFault>
+    ensures says { by_before result ≡ passed before at (task_rec (task_in bytes.now)) }
+    ensures holds { IfOk result (λ p. placed (slice_index_or bytes.now 18 0, p.1) ≡ task_in bytes.now) }
+{
+    let label = field(bytes, 2);
+    if !is_label(&label) {
+        return Err(RecordFault::Refused(Refusal::BadLabel, at));
+    }
+    let channel = bytes[18];
+    if channel > 63 {
+        return Err(RecordFault::Refused(Refusal::NoChannel, at));
+    }
+    if channel < before.least || before.frames > 0 {
+        return Err(RecordFault::Refused(Refusal::OutOfOrder, at));
+    }
+    let task = made_task(bytes).map_err(|e| RecordFault::Refused(e, at))?;
+    let least = channel + 1;
+    Ok((Before { least, ..before }, Entry { label, task }))
+}
+
+/// The checks on the record of a frame, after what came before it: what has come before the next one, and the frame.
+fn pass_frame(
+    before: Before,
+    bytes: &[u8; FRAME],
+    at: usize,
+) -> Result<(Before, Frame), RecordFault>
+    ensures says { by_before result ≡ passed before at (frame_rec (frame_in bytes.now)) }
+    ensures holds { IfOk result (λ p. frame_params p.1 ≡ frame_in bytes.now) }
+{
+    if before.frames >= 16 {
+        return Err(RecordFault::Refused(Refusal::TrainFull, at));
+    }
+    let frame = made_frame(bytes).map_err(|e| RecordFault::Refused(e, at))?;
+    let frames = before.frames + 1;
+    Ok((Before { frames, ..before }, frame))
+}
+
+impl Records {
+    /// No records.
+    pub(crate) fn new() -> Records
+        ensures before { result.before ≡ start }
+        ensures tasks { tasks_of result ≡ [] }
+        ensures frames { frames_of result.train ≡ [] }
+    {
+        Records {
+            before: Before::default(),
+            tasks: [unused(); 64],
+            count: 0,
+            train: RampTrain::new(),
+        }
+    }
+
+    /// Adds what a record holds, if it passes its checks.
+    pub(crate) fn add(&mut self, part: Part) -> Result<(), RecordFault>
+        ensures { Added self.old (piece part.entry) result self.new }
+    {
+        match part {
+            Part::Task(bytes, at) => {
+                let (before, entry) = pass_task(self.before, bytes, at)?;
+                self.tasks[self.count] = (bytes[18], entry);
+                self.count += 1;
+                self.before = before;
+            }
+            Part::Frame(bytes, at) => {
+                let (before, frame) = pass_frame(self.before, bytes, at)?;
+                self.train
+                    .push(frame)
+                    .map_err(|e| RecordFault::Refused(e, at))?;
+                self.before = before;
+            }
+        }
+        Ok(())
+    }
+}

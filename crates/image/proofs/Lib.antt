@@ -1,1 +1,4 @@
+pub mod Adding
+pub mod FirstFrame
+pub mod Judging
 pub mod Writing

@@ -19,7 +19,8 @@ pub fn judge_image(image: &[u8]) -> Result<u64, PlanFault>
 {
     let checked = check(image)?;
     let train = checked.train();
-    let alone = judge(&train).map_err(|u| PlanFault::Refused(u.into(), checked.first_frame()))?;
+    let at = checked.first_frame();
+    let alone = judge(&train).map_err(|unfit| PlanFault::Refused(unfit.into(), at))?;
     let mut plan = Plan::make(train);
     let with_tasks = checked.admit_to(&mut plan)?;
     Ok(with_tasks.unwrap_or(alone))

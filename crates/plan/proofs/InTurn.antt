@@ -80,7 +80,7 @@ module _ (g : Meaning) (lg : Laws g) where
       ∙ ap (λ (i : ℕ). in_turn g i (Some w) ys (put_one m x)) (let s : n + 1 + length (xs ++ (x ∷ [])) ≡ n + suc (length (xs ++ (x ∷ []))) = omega arith in s)
 
 -- What is answered where the first of them is answered with `r`.
-abbrev by_first : Meaning → ℕ → Placed → List Placed → Ledger → Result ℕ Refusal → InTurn
+abbrev pub by_first : Meaning → ℕ → Placed → List Placed → Ledger → Result ℕ Refusal → InTurn
 by_first g n x xs l r = elim r [ Err e ↦ (Err (n, e), l) | Ok w ↦ in_turn g (suc n) (Some w) xs (put_one l x) ]
 
 -- Where one is refused its place is one of theirs, counted from n.

@@ -3,6 +3,7 @@ pub mod MapErr
 pub mod Weigh
 pub mod PutTogether
 pub mod InTurn
+pub mod BusyTold
 pub mod AtOnce
 pub mod Halving
 pub mod Reach

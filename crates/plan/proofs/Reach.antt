@@ -86,9 +86,9 @@ after_ranged g ks = after_keeps g Ranged (ranged_keeps g) blank ks (blank_ranged
 pub plan_laws : (g : Meaning) → Laws g → (l : Ledger) → Ranged l → Laws (plan g l)
 plan_laws g h l r = beside_laws (table l) g (tasks_laws (filled l) r) h
 
-pub verdict_ok : (r : Result ℕ Unfit) (u : ℕ) → by_verdict r ≡ Ok u → (w : ℕ) × (r ≡ Ok w)
-verdict_ok (Ok w) u e = (w, refl)
-verdict_ok (Err x) u e = cc
+pub verdict_ok : (r : Result ℕ Unfit) (w : ℕ) → by_verdict r ≡ Ok w → r ≡ Ok w
+verdict_ok (Ok v) w e = let q : v ≡ w = cc in ap (λ (x : ℕ). Ok x) q
+verdict_ok (Err x) w e = cc
 
 no_task_lower : (g : Meaning) → Lower (beside (tasks_meaning []) g).amounts g.amounts
 unfolding beside both tasks_meaning tasks_amounts
@@ -112,8 +112,7 @@ module _ (g : Meaning) (lg : Laws g) where
   weighed_fits l c k u r q =
       let m = (plan g (set l c (Some k))).amounts in
       let h = (plan_laws g lg (set l c (Some k)) r).rules in
-      let v = verdict_ok (look m) u q in
-      accepted_ok m h v.0 (sym (walk_is_look m h ∙ v.1))
+      accepted_ok m h u (sym (walk_is_look m h ∙ verdict_ok (look m) u q))
 
   -- Removing a task only lowers the amounts.
   pub retired_fits : (l : Ledger) (c : ℕ) → Ranged l → Fits l → Fits (set l c None)

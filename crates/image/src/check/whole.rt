@@ -53,7 +53,9 @@ impl<'a> Checked<'a> {
             → KeptAgain (G.Load.meaning (guest plan.old)) before (ledger plan.new) }
     {
         let entries = &self.records.tasks[..self.records.count];
-        plan.admit_all(entries)
-            .map_err(|(place, refusal)| PlanFault::Refused(refusal, TASK * place))
+        match plan.admit_all(entries) {
+            Ok(busy) => Ok(busy),
+            Err((place, refusal)) => Err(PlanFault::Refused(refusal, TASK * place)),
+        }
     }
 }

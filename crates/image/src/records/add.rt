@@ -1,9 +1,9 @@
-ghost use Rattle.std.specs.Prelude.{◌≡◌, [], IfOk, slice_index_or};
+ghost use Rattle.std.specs.Prelude.{◌≡◌, ◌<◌, ◌≤◌, [], ◌∷◌, ◌++◌, IfOk};
 ghost use Rattle.loads.specs.Making.{frame_params};
 ghost use Rattle.loads.specs.Train.{frames_of};
 ghost use Rattle.plan.specs.Admissions.{placed};
 ghost use Rattle.format.specs.Records.{task_rec, frame_rec, task_in, frame_in, start};
-ghost use Rattle.format.specs.Decode.{passed};
+ghost use Rattle.format.specs.Decode.{passed, task_piece, frame_piece};
 ghost use Rattle.format.specs.Parts.{piece};
 ghost use Rattle.image.specs.Checked.{tasks_of, by_before, Added};
 
@@ -27,15 +27,15 @@ fn unused() -> (u8, Entry) {
     (0, Entry { label, task })
 }
 
-/// The checks on the record of a task, after what came before it: what has come before the next one, and what the record
-/// holds for its channel.
+/// The checks on the record of a task, after what came before it: what has come before the next one, and the entry with
+/// its channel.
 fn pass_task(
     before: Before,
     bytes: &[u8; TASK],
     at: usize,
-) -> Result<(Before, Entry), RecordFault>
+) -> Result<(Before, (u8, Entry)), RecordFault>
     ensures says { by_before result ≡ passed before at (task_rec (task_in bytes.now)) }
-    ensures holds { IfOk result (λ p. placed (slice_index_or bytes.now 18 0, p.1) ≡ task_in bytes.now) }
+    ensures holds { IfOk result (λ p. placed p.1 ≡ task_in bytes.now) }
 {
     let label = field(bytes, 2);
     if !is_label(&label) {
@@ -50,7 +50,7 @@ fn pass_task(
     }
     let task = made_task(bytes).map_err(|e| RecordFault::Refused(e, at))?;
     let least = channel + 1;
-    Ok((Before { least, ..before }, Entry { label, task }))
+    Ok((Before { least, ..before }, (channel, Entry { label, task })))
 }
 
 /// The checks on the record of a frame, after what came before it: what has come before the next one, and the frame.
@@ -85,25 +85,49 @@ impl Records {
         }
     }
 
+    /// Adds an entry with its channel, for which there is room, and says what has come before the next record.
+    fn put(&mut self, entry: (u8, Entry), before: Before)
+        requires room { self.old.count < 64 }
+        requires rising { self.old.count < before.least }
+        requires channels { before.least ≤ 64 }
+        requires frames { before.frames ≡ self.old.before.frames }
+        ensures tasks { tasks_of self.new ≡ tasks_of self.old ++ (placed entry ∷ []) }
+        ensures before { self.new.before ≡ before }
+        ensures train { self.new.train ≡ self.old.train }
+    {
+        self.tasks[self.count] = entry;
+        self.count += 1;
+        self.before = before;
+    }
+
+    /// Adds a task, if its record passes its checks.
+    fn add_task(&mut self, bytes: &[u8; TASK], at: usize) -> Result<(), RecordFault>
+        ensures { Added self.old (task_piece bytes.now at) result self.new }
+    {
+        let (before, entry) = pass_task(self.before, bytes, at)?;
+        self.put(entry, before);
+        Ok(())
+    }
+
+    /// Adds a frame, if its record passes its checks.
+    fn add_frame(&mut self, bytes: &[u8; FRAME], at: usize) -> Result<(), RecordFault>
+        ensures { Added self.old (frame_piece bytes.now at) result self.new }
+    {
+        let (before, frame) = pass_frame(self.before, bytes, at)?;
+        self.train
+            .push(frame)
+            .map_err(|e| RecordFault::Refused(e, at))?;
+        self.before = before;
+        Ok(())
+    }
+
     /// Adds what a record holds, if it passes its checks.
     pub(crate) fn add(&mut self, part: Part) -> Result<(), RecordFault>
         ensures { Added self.old (piece part.entry) result self.new }
     {
         match part {
-            Part::Task(bytes, at) => {
-                let (before, entry) = pass_task(self.before, bytes, at)?;
-                self.tasks[self.count] = (bytes[18], entry);
-                self.count += 1;
-                self.before = before;
-            }
-            Part::Frame(bytes, at) => {
-                let (before, frame) = pass_frame(self.before, bytes, at)?;
-                self.train
-                    .push(frame)
-                    .map_err(|e| RecordFault::Refused(e, at))?;
-                self.before = before;
-            }
+            Part::Task(bytes, at) => self.add_task(bytes, at),
+            Part::Frame(bytes, at) => self.add_frame(bytes, at),
         }
-        Ok(())
     }
 }

@@ -18,8 +18,8 @@ pub(crate) fn row_by<F: Fn(u64) -> u64>(from: u64, question: F) -> [u64; ROW]
     answers
 }
 
-/// Makes the row of a load that finds its rows as if 100,000,000 were a tick as any other: beyond it each place takes
-/// what stands there. In place, as a row is too long to be copied for nothing.
+/// Makes a row of what was found as if 100,000,000 were a tick as any other: each place beyond it takes what stands
+/// there. In place, since a row is long to copy.
 pub fn cut_row(answers: &mut [u64; ROW], from: u64)
     ensures { (f : ℕ → ℕ) → answers.old ≡ uncut_row f from → answers.new ≡ row f from }
 {
@@ -29,15 +29,16 @@ pub fn cut_row(answers: &mut [u64; ROW], from: u64)
     }
 }
 
-/// A row moved on by one place, with nothing at tick 0.
-fn moved_row(uncut: &[u64; ROW]) -> [u64; ROW]
-    ensures { (f : ℕ → ℕ) → f 0 ≡ 0 → uncut.now ≡ uncut_row (λ n. f (n + 1)) 0 → result ≡ row f 0 }
+/// Moves a row on by one place, and puts nothing at the first.
+fn move_row(answers: &mut [u64; ROW])
+    ensures { (f : ℕ → ℕ) → f 0 ≡ 0 → answers.old ≡ uncut_row (λ n. f (n + 1)) 0 → answers.new ≡ row f 0 }
 {
-    let mut row = [0; ROW];
-    for i in 1..ROW {
-        row[i] = uncut[i - 1];
+    let mut i = ROW - 1;
+    while i > 0 {
+        answers[i] = answers[i - 1];
+        i -= 1;
     }
-    row
+    answers[0] = 0;
 }
 
 /// One tick before `from`, where the row begins that `cut_next_row` takes.
@@ -53,7 +54,7 @@ pub fn cut_next_row(answers: &mut [u64; ROW], from: u64)
     ensures { (f : ℕ → ℕ) → f 0 ≡ 0 → answers.old ≡ uncut_row (λ n. f (n + 1)) (min from 100000000 - 1) → answers.new ≡ row f from }
 {
     if from == 0 {
-        *answers = moved_row(answers);
+        move_row(answers);
     } else {
         cut_row(answers, from);
     }

@@ -42,6 +42,7 @@ impl Load for Table<Slot> {
         let t = Ticks::upto(t);
         latest(&self.slots, |task| task.last_mark(t))
     }
+
     /// Counted from the first arrival, jobs fall due at D, D + T, ..
     fn due_row(&self, from: u64) -> [u64; ROW] {
         let mut answers = row(&self.slots, from, |task| task.deadline());
@@ -62,9 +63,9 @@ impl Load for Table<Slot> {
         answers
     }
 
-    /// A question looks at 64 slots, which takes as long as 10 divisions, and divides once for each task. A row takes as
-    /// long as 128, for its 256 places and the jobs that come within them, and 2 more for each task. To count the tasks
-    /// takes less than a question does, and is done once in 16 steps or beside a row.
+    /// In divisions: a question looks at 64 slots, which takes as long as 10, and divides once for each task. A row takes as
+    /// long as 128, for its 256 places and the jobs that come within them, and 2 for each task. To count the tasks takes
+    /// less time than a question, and this is asked once in 16 steps, or beside a row.
     fn effort(&self) -> Effort {
         let filled = self.slots.iter().filter(|slot| slot.held.is_some());
         let tasks = filled.count() as u64;

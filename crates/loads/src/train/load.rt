@@ -49,8 +49,8 @@ impl Load for RampTrain {
         answers
     }
 
-    /// A question goes over each frame of each circle, four of them in the time of a division. In a row each frame of each
-    /// circle takes as long as a few divisions, and each circle is added up along the row.
+    /// In divisions: a question goes over each frame of each circle, four of them in one. A row takes as long as some 40 for
+    /// each circle, whose frames are put into it and added up along it.
     fn effort(&self) -> Effort {
         let frames = self.frames().len() as u64;
         Effort {

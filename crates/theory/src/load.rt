@@ -51,7 +51,7 @@ pub trait Load {
         row_by(from, |s| self.ready(s))
     }
 
-    /// About how long a question and a row take: where the rows ask the single questions, a row takes 256 of them.
+    /// About how long a question and a row take: here as long as a division, and as 256 questions.
     fn effort(&self) -> Effort {
         Effort {
             question: 1,

@@ -18,28 +18,27 @@ pub(crate) fn row_by<F: Fn(u64) -> u64>(from: u64, question: F) -> [u64; ROW]
     answers
 }
 
-/// The row of a load that finds its rows as if 100,000,000 were a tick as any other: beyond it each place takes what
-/// stands there.
-pub fn cut_row(uncut: [u64; ROW], from: u64) -> [u64; ROW]
-    ensures { (f : ℕ → ℕ) → uncut ≡ uncut_row f from → result ≡ row f from }
+/// Makes a row of what was found as if 100,000,000 were a tick as any other: each place beyond it takes what stands
+/// there. In place, since a row is long to copy.
+pub fn cut_row(answers: &mut [u64; ROW], from: u64)
+    ensures { (f : ℕ → ℕ) → answers.old ≡ uncut_row f from → answers.new ≡ row f from }
 {
-    let mut row = uncut;
     let last = (LAST - from.min(LAST)).min(ROW as u64 - 1) as usize;
     for i in last + 1..ROW {
-        row[i] = row[last];
+        answers[i] = answers[last];
     }
-    row
 }
 
-/// A row moved on by one place, with nothing at tick 0.
-fn moved_row(uncut: &[u64; ROW]) -> [u64; ROW]
-    ensures { (f : ℕ → ℕ) → f 0 ≡ 0 → uncut.now ≡ uncut_row (λ n. f (n + 1)) 0 → result ≡ row f 0 }
+/// Moves a row on by one place, and puts nothing at the first.
+fn move_row(answers: &mut [u64; ROW])
+    ensures { (f : ℕ → ℕ) → f 0 ≡ 0 → answers.old ≡ uncut_row (λ n. f (n + 1)) 0 → answers.new ≡ row f 0 }
 {
-    let mut row = [0; ROW];
-    for i in 1..ROW {
-        row[i] = uncut[i - 1];
+    let mut i = ROW - 1;
+    while i > 0 {
+        answers[i] = answers[i - 1];
+        i -= 1;
     }
-    row
+    answers[0] = 0;
 }
 
 /// One tick before `from`, where the row begins that `cut_next_row` takes.
@@ -51,18 +50,18 @@ pub fn tick_before(from: u64) -> u64
 
 /// As `cut_row`, from an uncut row that begins one tick earlier and has at each tick what is to stand at the next one: so
 /// a load can find what is ready within t + 1 ticks by what is released up to tick t.
-pub fn cut_next_row(uncut: [u64; ROW], from: u64) -> [u64; ROW]
-    ensures { (f : ℕ → ℕ) → f 0 ≡ 0 → uncut ≡ uncut_row (λ n. f (n + 1)) (min from 100000000 - 1) → result ≡ row f from }
+pub fn cut_next_row(answers: &mut [u64; ROW], from: u64)
+    ensures { (f : ℕ → ℕ) → f 0 ≡ 0 → answers.old ≡ uncut_row (λ n. f (n + 1)) (min from 100000000 - 1) → answers.new ≡ row f from }
 {
     if from == 0 {
-        moved_row(&uncut)
+        move_row(answers);
     } else {
-        cut_row(uncut, from)
+        cut_row(answers, from);
     }
 }
 
-/// About how long a single question and a row take, in any unit, the same for both. It decides only which of two ways with
-/// the same result is taken, so nothing is said of it.
+/// About how long a single question and a row take, in divisions: one unit for all loads, since the numbers of loads side
+/// by side are added up. It decides only which of two ways with the same result is taken, so nothing is said of it.
 #[derive(Clone, Copy, Debug)]
 pub struct Effort {
     pub question: u64,

@@ -42,26 +42,36 @@ impl Load for Table<Slot> {
         let t = Ticks::upto(t);
         latest(&self.slots, |task| task.last_mark(t))
     }
+
     /// Counted from the first arrival, jobs fall due at D, D + T, ..
     fn due_row(&self, from: u64) -> [u64; ROW] {
-        cut_row(row(&self.slots, from, |task| task.deadline()), from)
+        let mut answers = row(&self.slots, from, |task| task.deadline());
+        cut_row(&mut answers, from);
+        answers
     }
 
     fn held_row(&self, from: u64) -> [u64; ROW] {
-        cut_row(held_row(&self.slots, from), from)
+        let mut answers = held_row(&self.slots, from);
+        cut_row(&mut answers, from);
+        answers
     }
 
     /// Counted from the first arrival, jobs are released at 0, T, .., and t + 1 ticks have what is released up to tick t.
     fn ready_row(&self, from: u64) -> [u64; ROW] {
-        cut_next_row(row(&self.slots, tick_before(from), |_| 0), from)
+        let mut answers = row(&self.slots, tick_before(from), |_| 0);
+        cut_next_row(&mut answers, from);
+        answers
     }
 
-    /// The unit is what one task adds to a question, which is about one division.
+    /// In divisions: a question looks at 64 slots, which takes as long as 10, and divides once for each task. A row takes as
+    /// long as 128, for its 256 places and the jobs that come within them, and 2 for each task. To count the tasks takes
+    /// less time than a question, and this is asked once in 16 steps, or beside a row.
     fn effort(&self) -> Effort {
-        let tasks = self.slots.iter().filter(|slot| slot.held.is_some()).count() as u64;
+        let filled = self.slots.iter().filter(|slot| slot.held.is_some());
+        let tasks = filled.count() as u64;
         Effort {
-            question: tasks.saturating_add(8),
-            row: tasks.saturating_mul(8).saturating_add(72),
+            question: tasks.saturating_add(10),
+            row: tasks.saturating_mul(2).saturating_add(128),
         }
     }
 }

@@ -1,6 +1,6 @@
 ghost use Rattle.std.specs.Prelude.{◌≡◌};
 ghost use Rattle.loads.specs.Params.{task};
-ghost use Rattle.loads.specs.Making.{made_task, task_made, task_params};
+ghost use Rattle.loads.specs.Making.{made_task, task_made};
 
 use super::Task;
 use crate::ranges::check_ranges;

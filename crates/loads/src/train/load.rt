@@ -33,7 +33,9 @@ impl Load for RampTrain {
     }
 
     fn due_row(&self, from: u64) -> [u64; ROW] {
-        cut_row(self.row_of(Counted::Due, from), from)
+        let mut answers = self.row_of(Counted::Due, from);
+        cut_row(&mut answers, from);
+        answers
     }
 
     #[tactic(auto, unfolding(crate::specs::Train::train_amounts, theory::specs::Rows::row))]
@@ -42,14 +44,18 @@ impl Load for RampTrain {
     }
 
     fn ready_row(&self, from: u64) -> [u64; ROW] {
-        cut_next_row(self.row_of(Counted::Ready, tick_before(from)), from)
+        let mut answers = self.row_of(Counted::Ready, tick_before(from));
+        cut_next_row(&mut answers, from);
+        answers
     }
 
+    /// In divisions: a question goes over each frame of each circle, four of them in one. A row takes as long as some 40 for
+    /// each circle, whose frames are put into it and added up along it.
     fn effort(&self) -> Effort {
         let frames = self.frames().len() as u64;
         Effort {
-            question: frames,
-            row: frames.saturating_mul(8).saturating_add(64),
+            question: frames.saturating_mul(frames) / 4 + 4,
+            row: frames.saturating_mul(40).saturating_add(100),
         }
     }
 }

@@ -7,14 +7,14 @@ use Rattle.theory.proofs.rows.cut_row.Goals as goal
 pub loop-i-init : goal.loop-i-init
 loop-i-init c = record {
   places = refl;
-  cut = λ z j h. ap (λ k. get_or c.args.uncut k 0) (let e : j ≡ min j c.min-last.result = omega arith in e);
+  cut = λ z j h. ap (λ k. get_or c.args.answers.now k 0) (let e : j ≡ min j c.min-last.result = omega arith in e);
 }
 
 pub loop-i-preserved : goal.loop-i-preserved
 loop-i-preserved c =
     let i = c.loop-i.i in
     let l = c.min-last.result in
-    let row = c.loop-i.row in
+    let row = c.loop-i.answers in
     record {
       places = omega (arith, length-set row i (get_or row l 0), c.loop-i.invariant.places);
       cut = λ z j h. elim (cases_lt j i) [
@@ -23,11 +23,11 @@ loop-i-preserved c =
             let q : i ≡ j = omega arith in
             let n : i < length row = omega (arith, z, c.loop-i.invariant.places) in
             let k : min l l ≡ min j l = omega arith in
-            let s : get_or row l 0 ≡ get_or c.args.uncut (min j l) 0 = c.loop-i.invariant.cut z l (omega arith) ∙ ap (λ x. get_or c.args.uncut x 0) k in
-            subst (λ x. get_or (set row i (get_or row l 0)) x 0 ≡ get_or c.args.uncut (min j l) 0) q (rw get_or-set_same s)
+            let s : get_or row l 0 ≡ get_or c.args.answers.now (min j l) 0 = c.loop-i.invariant.cut z l (omega arith) ∙ ap (λ x. get_or c.args.answers.now x 0) k in
+            subst (λ x. get_or (set row i (get_or row l 0)) x 0 ≡ get_or c.args.answers.now (min j l) 0) q (rw get_or-set_same s)
             )
       ];
     }
 
 pub returns : goal.returns
-returns c = λ f e. cut_whole f c.args.from c.min-last.result c.args.uncut e (omega arith) c.loop-i.row c.loop-i.invariant.places (λ j h. c.loop-i.invariant.cut (uncut_length f c.args.from c.min-last.result c.args.uncut e (omega arith)) j (omega arith))
+returns c = λ f e. cut_whole f c.args.from c.min-last.result c.args.answers.now e (omega arith) c.loop-i.answers c.loop-i.invariant.places (λ j h. c.loop-i.invariant.cut (uncut_length f c.args.from c.min-last.result c.args.answers.now e (omega arith)) j (omega arith))

@@ -11,6 +11,6 @@ pub returns : goal.returns
 returns c =
     let fs = frames_of c.args.self.now in
     c.cut_next_row.ensures (train_amounts fs).ready (ready_none fs) (
-    c.row_of.ensures ∙ ap (λ g. row g c.tick_before.result) (fun_ext (λ s. ready_row fs (frames_ranged c.args.self.now) s))
+    c.row_of-answers.ensures ∙ ap (λ g. row g c.tick_before.result) (fun_ext (λ s. ready_row fs (frames_ranged c.args.self.now) s))
     ∙ ap (row (λ s. (train_amounts fs).ready (s + 1))) c.tick_before.ensures
     )

@@ -1,4 +1,2 @@
-pub mod Adding
-pub mod FirstFrame
 pub mod Judging
 pub mod Writing

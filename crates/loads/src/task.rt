@@ -4,11 +4,11 @@ ghost use Rattle.std.specs.Prelude.{◌<◌, ◌≤◌};
 /// existence keeps the ranges.
 #[derive(Clone, Copy, Debug)]
 pub struct Task {
-    cost: u32,
-    period: u32,
-    deadline: u32,
-    jitter: u32,
-    section: u16,
+    pub cost: u32,
+    pub period: u32,
+    pub deadline: u32,
+    pub jitter: u32,
+    pub section: u16,
     ghost cost_range: { (1 ≤ cost) × (cost ≤ 10000000) },
     ghost period_range: { (1 ≤ period) × (period ≤ 10000000) },
     ghost deadline_range: { (1 ≤ deadline) × (deadline ≤ 100000000) },

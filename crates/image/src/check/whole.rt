@@ -1,8 +1,9 @@
-ghost use Rattle.std.specs.Prelude.{◌≡◌, List};
+ghost use Rattle.std.specs.Prelude.{◌≡◌, ◌<◌, ◌≤◌, List, map, take, slice_index_or};
 ghost use Rattle.loads.specs.Channels.{blank};
 ghost use Rattle.loads.specs.Train.{frames_of};
 ghost use Rattle.plan.specs.declared.call.Call.{Call as a_call};
 ghost use Rattle.plan.specs.Ledger.{ledger, after, guest};
+ghost use Rattle.plan.specs.Admissions.{placed};
 ghost use Rattle.format.specs.Decode.{decode, tasks_in, frames_in};
 ghost use Rattle.format.specs.Fills.{admitted_to, KeptAgain};
 ghost use Rattle.image.specs.Verdict.{first_frame};
@@ -10,9 +11,12 @@ ghost use Rattle.image.specs.Whole.{records_of, read_whole};
 
 use super::Checked;
 use crate::parts::Parts;
+use crate::read::{field, number};
 use crate::records::Records;
 use format::fault::{PlanFault, RecordFault};
 use format::part::TASK;
+use loads::entry::Entry;
+use loads::task::Task;
 use loads::train::RampTrain;
 use plan::plan::Plan;
 use theory::load::Load;
@@ -25,7 +29,12 @@ pub fn check<'a>(image: &'a [u8]) -> Result<Checked<'a>, RecordFault>
     for part in Parts::new(image) {
         records.add(part?)?;
     }
-    Ok(Checked { image, records })
+    let Records { tasks, train, .. } = records;
+    Ok(Checked {
+        image,
+        tasks,
+        train,
+    })
 }
 
 impl<'a> Checked<'a> {
@@ -33,14 +42,43 @@ impl<'a> Checked<'a> {
     pub fn train(&self) -> RampTrain
         ensures { frames_of result ≡ frames_in (records_of self.now) }
     {
-        self.records.train
+        self.train
     }
 
     /// Where its first frame begins, or the end mark if it has none: tasks come first.
     pub fn first_frame(&self) -> usize
         ensures { result ≡ first_frame 0 (records_of self.now) }
     {
-        TASK * self.records.count
+        TASK * self.tasks
+    }
+
+    /// The task at a place among its tasks, with its channel: its ranges were checked.
+    fn entry(&self, n: usize) -> (u8, Entry)
+        requires { n < self.now.tasks }
+        ensures { placed result ≡ slice_index_or (tasks_in (records_of self.now)) n (placed result) }
+    {
+        let bytes: &[u8; TASK] = self.image[TASK * n..].first_chunk().unwrap();
+        let task = Task {
+            cost: number(bytes, 19),
+            period: number(bytes, 23),
+            deadline: number(bytes, 27),
+            jitter: number(bytes, 31),
+            section: u16::from_be_bytes(field(bytes, 35)),
+        };
+        let label = field(bytes, 2);
+        (bytes[18], Entry { label, task })
+    }
+
+    /// Its tasks, with their channels, in the first places.
+    fn entries(&self) -> [(u8, Entry); 64]
+        requires { 1 ≤ self.now.tasks }
+        ensures { map placed (take self.now.tasks result) ≡ tasks_in (records_of self.now) }
+    {
+        let mut entries = [self.entry(0); 64];
+        for n in 1..self.tasks {
+            entries[n] = self.entry(n);
+        }
+        entries
     }
 
     /// Admits its tasks into a plan, one after another, up to the first that is refused: the busy period of the plan with
@@ -52,8 +90,10 @@ impl<'a> Checked<'a> {
         ensures kept { (before : List a_call) → ledger plan.old ≡ after (G.Load.meaning (guest plan.old)) blank before
             → KeptAgain (G.Load.meaning (guest plan.old)) before (ledger plan.new) }
     {
-        let entries = &self.records.tasks[..self.records.count];
-        match plan.admit_all(entries) {
+        if self.tasks == 0 {
+            return Ok(None);
+        }
+        match plan.admit_all(&self.entries()[..self.tasks]) {
             Ok(busy) => Ok(busy),
             Err((place, refusal)) => Err(PlanFault::Refused(refusal, TASK * place)),
         }

@@ -1,44 +1,28 @@
-ghost use Rattle.std.specs.Prelude.{◌≡◌, ◌<◌, ◌≤◌, [], ◌∷◌, ◌++◌, IfOk};
+ghost use Rattle.std.specs.Prelude.{◌≡◌, [], IfOk};
 ghost use Rattle.loads.specs.Making.{frame_params};
 ghost use Rattle.loads.specs.Train.{frames_of};
-ghost use Rattle.plan.specs.Admissions.{placed};
 ghost use Rattle.format.specs.Records.{task_rec, frame_rec, task_in, frame_in, start};
 ghost use Rattle.format.specs.Decode.{passed, task_piece, frame_piece};
 ghost use Rattle.format.specs.Parts.{piece};
-ghost use Rattle.image.specs.Checked.{tasks_of, by_before, Added};
+ghost use Rattle.image.specs.Checked.{by_before};
+ghost use Rattle.image.specs.Added.{Added};
 
 use super::Records;
-use crate::read::{field, made_frame};
+use crate::read::made_frame;
 use crate::read_task::made_task;
 use format::before::Before;
 use format::fault::RecordFault;
 use format::part::{FRAME, Part, TASK};
-use loads::entry::Entry;
 use loads::frame::Frame;
 use loads::refusal::Refusal;
-use loads::task::Task;
 use loads::train::RampTrain;
 use plan::label::is_label;
 
-/// What stands in the places that no task takes.
-fn unused() -> (u8, Entry) {
-    let task = Task::new(1, 1, 1, 0, 0).unwrap();
-    let label = [0; 16];
-    (0, Entry { label, task })
-}
-
-/// The checks on the record of a task, after what came before it: what has come before the next one, and the entry with
-/// its channel.
-fn pass_task(
-    before: Before,
-    bytes: &[u8; TASK],
-    at: usize,
-) -> Result<(Before, (u8, Entry)), RecordFault>
-    ensures says { by_before result ≡ passed before at (task_rec (task_in bytes.now)) }
-    ensures holds { IfOk result (λ p. placed p.1 ≡ task_in bytes.now) }
+/// The checks on the record of a task, after what came before it: what has come before the next one.
+fn pass_task(before: Before, bytes: &[u8; TASK], at: usize) -> Result<Before, RecordFault>
+    ensures { result ≡ passed before at (task_rec (task_in bytes.now)) }
 {
-    let label = field(bytes, 2);
-    if !is_label(&label) {
+    if !is_label(&bytes[2..18]) {
         return Err(RecordFault::Refused(Refusal::BadLabel, at));
     }
     let channel = bytes[18];
@@ -48,9 +32,11 @@ fn pass_task(
     if channel < before.least || before.frames > 0 {
         return Err(RecordFault::Refused(Refusal::OutOfOrder, at));
     }
-    let task = made_task(bytes).map_err(|e| RecordFault::Refused(e, at))?;
-    let least = channel + 1;
-    Ok((Before { least, ..before }, (channel, Entry { label, task })))
+    made_task(bytes).map_err(|e| RecordFault::Refused(e, at))?;
+    Ok(Before {
+        least: channel + 1,
+        ..before
+    })
 }
 
 /// The checks on the record of a frame, after what came before it: what has come before the next one, and the frame.
@@ -74,38 +60,22 @@ impl Records {
     /// No records.
     pub(crate) fn new() -> Records
         ensures before { result.before ≡ start }
-        ensures tasks { tasks_of result ≡ [] }
+        ensures tasks { result.tasks ≡ 0 }
         ensures frames { frames_of result.train ≡ [] }
     {
         Records {
             before: Before::default(),
-            tasks: [unused(); 64],
-            count: 0,
+            tasks: 0,
             train: RampTrain::new(),
         }
-    }
-
-    /// Adds an entry with its channel, for which there is room, and says what has come before the next record.
-    fn put(&mut self, entry: (u8, Entry), before: Before)
-        requires room { self.old.count < 64 }
-        requires rising { self.old.count < before.least }
-        requires channels { before.least ≤ 64 }
-        requires frames { before.frames ≡ self.old.before.frames }
-        ensures tasks { tasks_of self.new ≡ tasks_of self.old ++ (placed entry ∷ []) }
-        ensures before { self.new.before ≡ before }
-        ensures train { self.new.train ≡ self.old.train }
-    {
-        self.tasks[self.count] = entry;
-        self.count += 1;
-        self.before = before;
     }
 
     /// Adds a task, if its record passes its checks.
     fn add_task(&mut self, bytes: &[u8; TASK], at: usize) -> Result<(), RecordFault>
         ensures { Added self.old (task_piece bytes.now at) result self.new }
     {
-        let (before, entry) = pass_task(self.before, bytes, at)?;
-        self.put(entry, before);
+        self.before = pass_task(self.before, bytes, at)?;
+        self.tasks += 1;
         Ok(())
     }
 

@@ -8,6 +8,7 @@ pub mod Items
 pub mod Passing
 pub mod Reading
 pub mod Rising
+pub mod TasksAt
 pub mod ReadsAgain
 pub mod WritesAgain
 pub mod Places

@@ -22,7 +22,7 @@ use Rattle.format.proofs.Passing.{task_passes}
 use Rattle.format.proofs.Rising.{Lawful, decoded_lawful, no_tasks, Empty, empty_blank, empty_from, empty_above, tasks_set}
 
 -- Tasks come first, and then the frames.
-sorted : (b : Before) (rs : List Rec) → Lawful b rs → in_order (tasks_in rs) (frames_in rs) ≡ rs
+pub sorted : (b : Before) (rs : List Rec) → Lawful b rs → in_order (tasks_in rs) (frames_in rs) ≡ rs
 sorted b [] k = refl
 sorted b (task_rec t ∷ rs) k = ap (λ (qs : List Rec). task_rec t ∷ qs) (sorted (after b (task_rec t)) rs k.1)
 sorted b (frame_rec f ∷ rs) k =

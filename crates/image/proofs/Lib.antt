@@ -1,2 +1,4 @@
+pub mod Adding
+pub mod InOrder
 pub mod Judging
 pub mod Writing

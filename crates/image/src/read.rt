@@ -35,12 +35,20 @@ pub fn size_of(part: Part) -> usize
     }
 }
 
+/// The N bytes from place `i` on, borrowed.
+pub(crate) fn chunk<const N: usize>(bytes: &[u8], i: usize) -> &[u8; N]
+    requires { i + N ≤ length bytes.now }
+    ensures { result.now ≡ take N (drop i bytes.now) }
+{
+    bytes[i..].first_chunk().unwrap()
+}
+
 /// The N bytes from place `i` on.
 pub(crate) fn field<const N: usize>(bytes: &[u8], i: usize) -> [u8; N]
     requires { i + N ≤ length bytes.now }
     ensures { result ≡ take N (drop i bytes.now) }
 {
-    *bytes[i..].first_chunk().unwrap()
+    *chunk(bytes, i)
 }
 
 /// The number in the four bytes from place `i` on.

@@ -1,9 +1,12 @@
 ghost use Rattle.std.specs.Prelude.{◌≡◌};
+ghost use Rattle.loads.specs.Params.{TaskRanges};
 ghost use Rattle.loads.specs.Making.{made_task, task_made};
-ghost use Rattle.format.specs.Records.{params_in};
+ghost use Rattle.plan.specs.Admissions.{placed};
+ghost use Rattle.format.specs.Records.{params_in, task_in};
 
 use crate::read::{field, number};
 use format::part::TASK;
+use loads::entry::Entry;
 use loads::refusal::Refusal;
 use loads::task::Task;
 
@@ -19,4 +22,21 @@ pub(crate) fn made_task(bytes: &[u8; TASK]) -> Result<Task, Refusal>
         number(bytes, 31),
         u32::from(u16::from_be_bytes(field(bytes, 35))),
     )
+}
+
+/// What a record holds whose numbers are in range: a channel, and label and task for it. The ranges are shown to the
+/// check, so that they are not looked at again.
+pub(crate) fn entry_in(bytes: &[u8; TASK]) -> (u8, Entry)
+    requires { TaskRanges (params_in bytes.now) }
+    ensures { placed result ≡ task_in bytes.now }
+{
+    let task = Task {
+        cost: number(bytes, 19),
+        period: number(bytes, 23),
+        deadline: number(bytes, 27),
+        jitter: number(bytes, 31),
+        section: u16::from_be_bytes(field(bytes, 35)),
+    };
+    let label = field(bytes, 2);
+    (bytes[18], Entry { label, task })
 }

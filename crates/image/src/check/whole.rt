@@ -1,4 +1,4 @@
-ghost use Rattle.std.specs.Prelude.{◌≡◌, ◌<◌, ◌≤◌, List, map, take, slice_index_or};
+ghost use Rattle.std.specs.Prelude.{◌≡◌, ◌<◌, ◌≤◌, ◌*◌, List, map, take, drop, slice_index_or};
 ghost use Rattle.loads.specs.Channels.{blank};
 ghost use Rattle.loads.specs.Train.{frames_of};
 ghost use Rattle.plan.specs.declared.call.Call.{Call as a_call};
@@ -11,12 +11,12 @@ ghost use Rattle.image.specs.Whole.{records_of, read_whole};
 
 use super::Checked;
 use crate::parts::Parts;
-use crate::read::{field, number};
+use crate::read::chunk;
+use crate::read_task::entry_in;
 use crate::records::Records;
 use format::fault::{PlanFault, RecordFault};
 use format::part::TASK;
 use loads::entry::Entry;
-use loads::task::Task;
 use loads::train::RampTrain;
 use plan::plan::Plan;
 use theory::load::Load;
@@ -52,21 +52,20 @@ impl<'a> Checked<'a> {
         TASK * self.tasks
     }
 
-    /// The task at a place among its tasks, with its channel: its ranges were checked.
+    /// The record of a task, by its place among them.
+    fn record(&self, n: usize) -> &'a [u8; TASK]
+        requires { n < self.now.tasks }
+        ensures { result.now ≡ take 37 (drop (37 * n) self.now.image.now) }
+    {
+        chunk(self.image, TASK * n)
+    }
+
+    /// A task with its channel, by its place among them.
     fn entry(&self, n: usize) -> (u8, Entry)
         requires { n < self.now.tasks }
         ensures { placed result ≡ slice_index_or (tasks_in (records_of self.now)) n (placed result) }
     {
-        let bytes: &[u8; TASK] = self.image[TASK * n..].first_chunk().unwrap();
-        let task = Task {
-            cost: number(bytes, 19),
-            period: number(bytes, 23),
-            deadline: number(bytes, 27),
-            jitter: number(bytes, 31),
-            section: u16::from_be_bytes(field(bytes, 35)),
-        };
-        let label = field(bytes, 2);
-        (bytes[18], Entry { label, task })
+        entry_in(self.record(n))
     }
 
     /// Its tasks, with their channels, in the first places.
@@ -75,7 +74,7 @@ impl<'a> Checked<'a> {
         ensures { map placed (take self.now.tasks result) ≡ tasks_in (records_of self.now) }
     {
         let mut entries = [self.entry(0); 64];
-        for n in 1..self.tasks {
+        for n in 0..self.tasks {
             entries[n] = self.entry(n);
         }
         entries

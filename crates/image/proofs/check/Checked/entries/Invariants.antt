@@ -1,0 +1,12 @@
+use Rattle.std.proofs.Common.{◌≡◌, map, take, length}
+use Rattle.plan.specs.Admissions.{placed}
+use Rattle.format.specs.Decode.{tasks_in}
+use Rattle.image.specs.Whole.{records_of}
+use Rattle.image.proofs.check.Checked.entries.Given as goal
+
+-- The first n are taken.
+abbrev pub invariant-loop-n : goal.invariant-loop-n
+invariant-loop-n l = record {
+  places : length l.entries ≡ 64;
+  taken : map placed (take l.n l.entries) ≡ take l.n (tasks_in (records_of l.self));
+}

@@ -1,4 +1,4 @@
-ghost use Rattle.std.specs.Prelude.{◌≡◌, ◌<◌, ◌≤◌, ◌*◌, List, map, take, drop, slice_index_or};
+ghost use Rattle.std.specs.Prelude.{◌≡◌, ◌<◌, ◌*◌, List, map, take, drop, slice_index_or};
 ghost use Rattle.loads.specs.Channels.{blank};
 ghost use Rattle.loads.specs.Train.{frames_of};
 ghost use Rattle.plan.specs.declared.call.Call.{Call as a_call};
@@ -68,16 +68,13 @@ impl<'a> Checked<'a> {
         entry_in(self.record(n))
     }
 
-    /// Its tasks, with their channels, in the first places.
-    fn entries(&self) -> [(u8, Entry); 64]
-        requires { 1 ≤ self.now.tasks }
-        ensures { map placed (take self.now.tasks result) ≡ tasks_in (records_of self.now) }
+    /// Puts its tasks, with their channels, in the first of these places.
+    fn take_tasks(&self, places: &mut [(u8, Entry); 64])
+        ensures { map placed (take self.now.tasks places.new) ≡ tasks_in (records_of self.now) }
     {
-        let mut entries = [self.entry(0); 64];
         for n in 0..self.tasks {
-            entries[n] = self.entry(n);
+            places[n] = self.entry(n);
         }
-        entries
     }
 
     /// Admits its tasks into a plan, one after another, up to the first that is refused: the busy period of the plan with
@@ -92,7 +89,9 @@ impl<'a> Checked<'a> {
         if self.tasks == 0 {
             return Ok(None);
         }
-        match plan.admit_all(&self.entries()[..self.tasks]) {
+        let mut entries = [self.entry(0); 64];
+        self.take_tasks(&mut entries);
+        match plan.admit_all(&entries[..self.tasks]) {
             Ok(busy) => Ok(busy),
             Err((place, refusal)) => Err(PlanFault::Refused(refusal, TASK * place)),
         }

@@ -26,6 +26,6 @@ pub overflow_mul-result : goal.overflow_mul-result
 overflow_mul-result g c =
     let k = c.args.self.now in
     let rs = records_of k in
-    let ts = map placed (take k.tasks c.entries.result) in
+    let ts = map placed (take k.tasks c.take_tasks.new.places) in
     let p = place_within (g.G.Load.meaning (guest c.args.plan.now)) 0 None ts (ledger c.args.plan.now) (c.in-Err.place, c.in-Err.refusal) (sym (ap (λ (x : InTurn). x.0) c.in-Err.ensures.says)) in
-    omega (arith, p.1, ap length c.entries.ensures, tasks_few k.image.now (tasks_in rs) (frames_in rs) (ordered k.image.now rs k.read))
+    omega (arith, p.1, ap length c.take_tasks.ensures, tasks_few k.image.now (tasks_in rs) (frames_in rs) (ordered k.image.now rs k.read))

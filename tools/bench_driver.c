@@ -1,6 +1,6 @@
 /* Times the library and the plain C on the same images, for tools/bench.
  *
- *     bench SECONDS REPETITIONS
+ *     bench SECONDS REPETITIONS [alone]
  *
  * reads from standard input, for each image, a line with its name and a line with its bytes in
  * hexadecimal. For each it makes REPETITIONS measurements of either, in turn, each of as many calls as
@@ -8,7 +8,8 @@
  *
  *     NAME <tab> code <tab> calls <tab> least time a call of the library <tab> of the plain C
  *
- * in seconds of processor time. Ends with 1 at an image on which the two do not give the same code.
+ * in seconds of processor time. Ends with 1 at an image on which the two do not give the same code. With
+ * `alone` the plain C is not called, and its time is told as 0.
  */
 #include <stdio.h>
 #include <stdlib.h>
@@ -40,8 +41,9 @@ int main(int count, char **words)
 {
     static char name[256], line[2 * LUKWAIZO_LIMIT + 2];
     static uint8_t image[LUKWAIZO_LIMIT];
-    if (count != 3)
+    if (count != 3 && !(count == 4 && strcmp(words[3], "alone") == 0))
         return 2;
+    int alone = count == 4;
     double seconds = atof(words[1]);
     long repetitions = atol(words[2]);
     while (fgets(name, sizeof name, stdin) && fgets(line, sizeof line, stdin)) {
@@ -53,8 +55,8 @@ int main(int count, char **words)
         }
         uint32_t code, plain_code;
         double least = timed(lukwaizo_check, image, length, 1, &code);
-        double plain_least = timed(plain_check, image, length, 1, &plain_code);
-        if (code != plain_code) {
+        double plain_least = alone ? 0 : timed(plain_check, image, length, 1, &plain_code);
+        if (!alone && code != plain_code) {
             printf("%s: the library gives %u, the plain C %u\n", name, (unsigned)code, (unsigned)plain_code);
             return 1;
         }
@@ -63,7 +65,7 @@ int main(int count, char **words)
         long turns = once >= 20 * seconds ? 1 : repetitions;
         for (long n = calls == 1 ? 1 : 0; n < turns; n++) {
             double one = timed(lukwaizo_check, image, length, calls, &code);
-            double plain = timed(plain_check, image, length, calls, &plain_code);
+            double plain = alone ? 0 : timed(plain_check, image, length, calls, &plain_code);
             if (n == 0 || one < least)
                 least = one;
             if (n == 0 || plain < plain_least)

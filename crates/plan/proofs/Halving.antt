@@ -1,6 +1,6 @@
 -- The halving that finds the first of several tasks that is refused.
-use Rattle.std.proofs.Common.{◌≡◌, ℕ, zero, suc, ◌+◌, ◌-◌, ◌<◌, ◌≤◌, List, [], ◌∷◌, ◌++◌, map, length, get_or, take, drop, Some, None, Ok, Err, Option, Result, sym, refl, ap, ◌∙◌, subst, arith, take_all}
-use Rattle.std.proofs.lemmas.List.{length-map, length-take, length-drop, take-map, drop-map, get_or-take, get_or-drop, take-append-drop, drop-drop, nil_from_length}
+use Rattle.std.proofs.Common.{◌≡◌, ℕ, suc, ◌+◌, ◌-◌, ◌<◌, ◌≤◌, List, [], ◌∷◌, ◌++◌, map, length, get_or, take, drop, Some, None, Ok, Err, Option, Result, sym, refl, ap, ◌∙◌, arith}
+use Rattle.std.proofs.lemmas.List.{length-take, length-drop, take-map, drop-map, get_or-take, get_or-drop, take-append-drop, drop-drop, nil_from_length}
 use Rattle.std.proofs.Math.Seq.{take-add, drop-cons}
 use Rattle.theory.specs.Meaning.{Meaning}
 use Rattle.loads.specs.declared.refusal.Refusal.{Refusal}

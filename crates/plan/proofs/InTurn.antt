@@ -1,17 +1,15 @@
 -- Tasks that are accepted together are accepted one after another, and what that leaves is what the calls leave.
-use Rattle.std.proofs.Common.{◌≡◌, ℕ, zero, suc, ◌+◌, ◌-◌, ◌<◌, ◌≤◌, List, [], ◌∷◌, ◌++◌, map, length, get_or, take, set, Some, None, Ok, Err, Option, Result, sym, refl, ap, ◌∙◌, subst, arith}
+use Rattle.std.proofs.Common.{◌≡◌, ℕ, suc, ◌+◌, ◌-◌, ◌<◌, ◌≤◌, List, [], ◌∷◌, ◌++◌, map, length, take, Some, Ok, Err, Option, Result, sym, refl, ap, ◌∙◌, subst, arith}
 use Rattle.theory.specs.Jobs.{All}
 use Rattle.theory.specs.Meaning.{Meaning, Laws}
-use Rattle.theory.specs.Verdict.{look}
 use Rattle.theory.proofs.Verdicts.{accepted_yes}
 use Rattle.loads.specs.declared.refusal.Refusal.{Refusal}
 use Rattle.loads.specs.declared.entry.Entry.{Entry}
 use Rattle.loads.specs.Params.{TaskRanges}
 use Rattle.loads.specs.Ranged.{Ranged, set_ranged, task_ranged}
 use Rattle.loads.specs.Channels.{content}
-use Rattle.plan.specs.declared.call.Call.{Call}
 use Rattle.plan.specs.declared.call.Call.TheVariants.{Admit}
-use Rattle.plan.specs.Ledger.{Ledger, plan, by_verdict, weighed, admitted, if_ok, next, after}
+use Rattle.plan.specs.Ledger.{Ledger, plan, by_verdict, admitted, if_ok, next, after}
 use Rattle.plan.specs.Admissions.{Placed, placed, InTurn, in_turn, tried, admits}
 use Rattle.plan.specs.Together.{vacant, put_one, put_all, EachVacant}
 use Rattle.plan.proofs.Reach.{Fits, weighed_fits, retired_fits, admitted_ok, plan_laws}

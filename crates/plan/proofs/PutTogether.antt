@@ -1,5 +1,5 @@
 -- Tasks put into empty channels one after another: what stands then, and that taking out the last undoes it.
-use Rattle.std.proofs.Common.{◌≡◌, ℕ, zero, suc, ◌+◌, ◌-◌, ◌<◌, ◌≤◌, Bool, true, false, cond, ltb, List, [], ◌∷◌, ◌++◌, map, length, get_or, take, set, Some, None, Ok, Err, Option, Result, sym, refl, ap, ◌∙◌, subst, arith}
+use Rattle.std.proofs.Common.{◌≡◌, ℕ, zero, suc, ◌+◌, ◌<◌, ◌≤◌, Bool, true, false, cond, ltb, List, [], ◌∷◌, ◌++◌, map, length, get_or, take, set, Some, None, Ok, Err, Option, Result, sym, refl, ap, ◌∙◌, subst, arith}
 use Rattle.std.proofs.lemmas.Bool.{ltb-false}
 use Rattle.std.proofs.lemmas.List.{set-set, set-get_or, take_more, length-map, get_or-map}
 use Rattle.loads.specs.declared.refusal.Refusal.{Refusal}
@@ -106,8 +106,7 @@ module _ (l m m' : Ledger) (es : List (ℕ × Entry)) (n : ℕ) (x : ℕ × Entr
   one_more_in o =
       let xs = map placed es in
       let at = placed_at es n x h is in
-      let v : vacant (put_all l (take n xs)) x.0 (content x.1) ≡ Ok tt = ap (λ (k : Ledger). vacant k x.0 (content x.1)) (sym in-it) ∙ sym says ∙ o in
-      (
+      let v : vacant (put_all l (take n xs)) x.0 (content x.1) ≡ Ok tt = ap (λ (k : Ledger). vacant k x.0 (content x.1)) (sym in-it) ∙ sym says ∙ o in (
         subst (EachVacant l) (sym (take_at xs n (placed x) at.0 at.1)) (each_more l (take n xs) (placed x) each v),
         then ∙ ap (λ (q : Result (Unit {0}) Refusal). if_ok q (set m x.0 (Some (content x.1))) m) o ∙ ap (λ (k : Ledger). put_one k (placed x)) in-it ∙ sym (put_at_place l xs n (placed x) at.0 at.1),
       )

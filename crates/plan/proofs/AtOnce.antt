@@ -1,5 +1,5 @@
 -- What is answered where all but the last are put in and that one is admitted.
-use Rattle.std.proofs.Common.{◌≡◌, ℕ, zero, suc, ◌+◌, ◌-◌, ◌<◌, ◌≤◌, List, [], ◌∷◌, ◌++◌, map, length, get_or, take, set, Some, Ok, Err, Option, Result, sym, refl, ap, ◌∙◌, subst, arith}
+use Rattle.std.proofs.Common.{◌≡◌, ℕ, zero, suc, ◌+◌, ◌<◌, ◌≤◌, List, [], ◌∷◌, ◌++◌, map, length, get_or, take, Some, Ok, Err, Option, Result, sym, refl, ap, ◌∙◌, subst, arith}
 use Rattle.std.specs.Result.{MatchResult, IsErrAnd}
 use Rattle.std.proofs.lemmas.List.{take-map, take_all, length-map, get_or-take, length-take}
 use Rattle.theory.specs.Meaning.{Meaning, Laws}
@@ -9,8 +9,8 @@ use Rattle.loads.specs.Ranged.{Ranged, task_ranged}
 use Rattle.loads.specs.Channels.{content}
 use Rattle.plan.specs.declared.call.Call.TheVariants.{Admit}
 use Rattle.plan.specs.Ledger.{Ledger, admitted, if_ok, next}
-use Rattle.plan.specs.Admissions.{Placed, placed, InTurn, in_turn}
-use Rattle.plan.specs.Together.{vacant, put_one, put_all, EachVacant, At, PutIn, AllGranted, Tried, Together}
+use Rattle.plan.specs.Admissions.{Placed, placed, in_turn}
+use Rattle.plan.specs.Together.{put_one, put_all, EachVacant, At, PutIn, AllGranted, Tried, Together}
 use Rattle.plan.proofs.PutTogether.{not_vacant, take_at, placed_at, put_all_join}
 use Rattle.plan.proofs.InTurn.{entries_in_range, together_granted, InRange}
 
@@ -32,8 +32,7 @@ stopped_early g l m es k q p =
     let n : q.0 < k = omega (arith, at.0, length-map (take k es) placed, length-take k es) in
     let t = take_placed q.0 k es (omega (arith, n)) in
     let len : length (map placed (take k es)) ≤ length (map placed es) = omega (arith, length-map (take k es) placed, length-take k es, length-map es placed) in
-    let same : get_or (map placed (take k es)) q.0 x ≡ get_or (map placed es) q.0 x = ap (λ (xs : List Placed). get_or xs q.0 x) (sym (take-map placed k es)) ∙ get_or-take k (map placed es) q.0 x n in
-    (
+    let same : get_or (map placed (take k es)) q.0 x ≡ get_or (map placed es) q.0 x = ap (λ (xs : List Placed). get_or xs q.0 x) (sym (take-map placed k es)) ∙ get_or-take k (map placed es) q.0 x n in (
       subst (EachVacant l) t p.0,
       p.1 ∙ ap (put_all l) t,
       (x, (omega (arith, at.0, len), at.1 ∙ same), not_vacant g m x.channel x.content q.1 p.2.2),
@@ -64,9 +63,8 @@ module _ (g : Meaning) (lg : Laws g) (l m m' : Ledger) (es : List (ℕ × Entry)
       let n = put_all l (take last xs) in
       let one : m' ≡ put_one n x = leaves (Ok w) s ∙ ap (λ (k : Ledger). put_one k x) before in
       let t = λ (i : ℕ) (o : Option ℕ) (ys : List Placed).
-          together_granted g lg i o l (take last xs) x ys w ranged (subst InRange front (entries_in_range (take last es))) (task_ranged e.1.task) (subst (EachVacant l) front p.0)
-          (ap (λ (k : Ledger). admitted g k e.0 (content e.1)) (sym before) ∙ s) in
-      (
+      together_granted g lg i o l (take last xs) x ys w ranged (subst InRange front (entries_in_range (take last es))) (task_ranged e.1.task) (subst (EachVacant l) front p.0)
+      (ap (λ (k : Ledger). admitted g k e.0 (content e.1)) (sym before) ∙ s) in (
         one ∙ sym (put_all_join l (take last xs) (x ∷ [])) ∙ ap (put_all l) whole,
         λ i o ys. ap (λ (zs : List Placed). in_turn g i o (zs ++ ys) l) (sym whole) ∙ t i o ys ∙ ap (λ (zs : List Placed). in_turn g (i + length zs) (Some w) ys (put_one n x)) whole
             ∙ ap (in_turn g (i + length xs) (Some w) ys) (sym one),

@@ -1,6 +1,6 @@
 -- The halving that finds the first of several tasks that is refused.
-use Rattle.std.proofs.Common.{◌≡◌, ℕ, zero, suc, ◌+◌, ◌-◌, ◌<◌, ◌≤◌, List, [], ◌∷◌, ◌++◌, map, length, get_or, take, drop, Some, None, Ok, Err, Option, Result, sym, refl, ap, ◌∙◌, subst, arith, take_all}
-use Rattle.std.proofs.lemmas.List.{length-map, length-take, length-drop, take-map, drop-map, get_or-take, get_or-drop, take-append-drop, drop-drop, nil_from_length}
+use Rattle.std.proofs.Common.{◌≡◌, ℕ, suc, ◌+◌, ◌-◌, ◌<◌, ◌≤◌, List, [], ◌∷◌, ◌++◌, map, length, get_or, take, drop, Some, None, Ok, Err, Option, Result, sym, ap, ◌∙◌, arith}
+use Rattle.std.proofs.lemmas.List.{length-take, length-drop, take-map, drop-map, get_or-take, get_or-drop, take-append-drop, drop-drop, nil_from_length}
 use Rattle.std.proofs.Math.Seq.{take-add, drop-cons}
 use Rattle.theory.specs.Meaning.{Meaning}
 use Rattle.loads.specs.declared.refusal.Refusal.{Refusal}
@@ -24,9 +24,6 @@ pub record Halving (g : Meaning) (old : Ledger) (xs : List Placed) (kept until :
   pub so_far : in_turn g 0 None xs old ≡ in_turn g kept busy (drop kept xs) l
   pub stands : l ≡ put_all old (take kept xs)
   pub bound : Bound g old xs until why
-
-pub halving_start : (g : Meaning) (l : Ledger) (xs : List Placed) (n : ℕ) → n ≡ length xs → Halving g l xs 0 n None None l
-halving_start g l xs n e = record { ordered = omega arith; within = omega (arith, e); so_far = refl; stands = refl; bound = e }
 
 -- The entries from one place up to another, by plain numbers.
 pub part_placed : (n k : ℕ) (es : List (ℕ × Entry)) → map placed (take n (drop k es)) ≡ take n (drop k (map placed es))

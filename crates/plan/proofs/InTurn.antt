@@ -1,24 +1,22 @@
 -- Tasks that are accepted together are accepted one after another, and what that leaves is what the calls leave.
-use Rattle.std.proofs.Common.{◌≡◌, ℕ, zero, suc, ◌+◌, ◌-◌, ◌<◌, ◌≤◌, List, [], ◌∷◌, ◌++◌, map, length, get_or, take, set, Some, None, Ok, Err, Option, Result, sym, refl, ap, ◌∙◌, subst, arith}
+use Rattle.std.proofs.Common.{◌≡◌, ℕ, suc, ◌+◌, ◌-◌, ◌<◌, ◌≤◌, List, [], ◌∷◌, ◌++◌, map, length, take, Some, Ok, Err, Option, Result, sym, refl, ap, ◌∙◌, subst, arith}
 use Rattle.theory.specs.Jobs.{All}
 use Rattle.theory.specs.Meaning.{Meaning, Laws}
-use Rattle.theory.specs.Verdict.{look}
 use Rattle.theory.proofs.Verdicts.{accepted_yes}
 use Rattle.loads.specs.declared.refusal.Refusal.{Refusal}
 use Rattle.loads.specs.declared.entry.Entry.{Entry}
 use Rattle.loads.specs.Params.{TaskRanges}
 use Rattle.loads.specs.Ranged.{Ranged, set_ranged, task_ranged}
 use Rattle.loads.specs.Channels.{content}
-use Rattle.plan.specs.declared.call.Call.{Call}
 use Rattle.plan.specs.declared.call.Call.TheVariants.{Admit}
-use Rattle.plan.specs.Ledger.{Ledger, plan, by_verdict, weighed, admitted, if_ok, next, after}
+use Rattle.plan.specs.Ledger.{Ledger, plan, by_verdict, admitted, if_ok, next, after}
 use Rattle.plan.specs.Admissions.{Placed, placed, InTurn, in_turn, tried, admits}
 use Rattle.plan.specs.Together.{vacant, put_one, put_all, EachVacant}
 use Rattle.plan.proofs.Reach.{Fits, weighed_fits, retired_fits, admitted_ok, plan_laws}
 use Rattle.plan.proofs.PutTogether.{emptied, vacant_weighed, granted_vacant}
 
 -- One task granted, and one refused.
-pub turn_granted : (g : Meaning) (n : ℕ) (o : Option ℕ) (x : Placed) (xs : List Placed) (l : Ledger) (w : ℕ) → admitted g l x.channel x.content ≡ Ok w
+turn_granted : (g : Meaning) (n : ℕ) (o : Option ℕ) (x : Placed) (xs : List Placed) (l : Ledger) (w : ℕ) → admitted g l x.channel x.content ≡ Ok w
     → in_turn g n o (x ∷ xs) l ≡ in_turn g (n + 1) (Some w) xs (put_one l x)
 unfolding in_turn
 turn_granted g n o x xs l w e =
@@ -101,7 +99,7 @@ answers_within g n o (x ∷ xs) l = go (admitted g l x.channel x.content) (λ w.
     go (Err r) ih = (omega arith, omega arith)
     go (Ok w) ih = more (in_turn g (suc n) (Some w) xs (put_one l x)).0 (ih w)
 
-pub place_within : (g : Meaning) (n : ℕ) (o : Option ℕ) (xs : List Placed) (l : Ledger) (p : ℕ × Refusal) → (in_turn g n o xs l).0 ≡ Err p → (n ≤ p.0) × (p.0 < n + length xs)
+place_within : (g : Meaning) (n : ℕ) (o : Option ℕ) (xs : List Placed) (l : Ledger) (p : ℕ × Refusal) → (in_turn g n o xs l).0 ≡ Err p → (n ≤ p.0) × (p.0 < n + length xs)
 unfolding Within
 place_within g n o xs l p e = subst (λ (t : Result (Option ℕ) (ℕ × Refusal)). Within t n (length xs)) e (answers_within g n o xs l)
 

@@ -1,5 +1,5 @@
 -- Tasks put into empty channels one after another: what stands then, and that taking out the last undoes it.
-use Rattle.std.proofs.Common.{◌≡◌, ℕ, zero, suc, ◌+◌, ◌-◌, ◌<◌, ◌≤◌, Bool, true, false, cond, ltb, List, [], ◌∷◌, ◌++◌, map, length, get_or, take, set, Some, None, Ok, Err, Option, Result, sym, refl, ap, ◌∙◌, subst, arith}
+use Rattle.std.proofs.Common.{◌≡◌, ℕ, zero, suc, ◌+◌, ◌<◌, ◌≤◌, Bool, true, false, cond, ltb, List, [], ◌∷◌, ◌++◌, map, length, get_or, take, set, Some, None, Ok, Err, Option, Result, sym, refl, ap, ◌∙◌, subst, arith}
 use Rattle.std.proofs.lemmas.Bool.{ltb-false}
 use Rattle.std.proofs.lemmas.List.{set-set, set-get_or, take_more, length-map, get_or-map}
 use Rattle.loads.specs.declared.refusal.Refusal.{Refusal}
@@ -41,12 +41,12 @@ granted_in true true held r x q = cc
 granted_in false above held r x q = cc
 
 -- What the checks of a vacant channel say.
-pub record Vacant (l : Ledger) (c : ℕ) (k : Content) : Type 0 where
+record Vacant (l : Ledger) (c : ℕ) (k : Content) : Type 0 where
   pub label : good_label k.label ≡ true
   pub channel : c ≤ 63
   pub empty : get_or l c None ≡ None
 
-pub vacant_says : (l : Ledger) (c : ℕ) (k : Content) → vacant l c k ≡ Ok tt → Vacant l c k
+vacant_says : (l : Ledger) (c : ℕ) (k : Content) → vacant l c k ≡ Ok tt → Vacant l c k
 vacant_says l c k q = let p = passing (good_label k.label) (ltb 63 c) (get_or l c None) q in record { label = p.0; channel = omega (arith, ltb-false 63 c p.1); empty = p.2 }
 
 -- After them the verdict decides, and a refusal of theirs is that of admit.
@@ -63,11 +63,11 @@ pub put_all_join : (l : Ledger) (xs ys : List Placed) → put_all l (xs ++ ys) �
 put_all_join l [] ys = refl
 put_all_join l (x ∷ xs) ys = put_all_join (put_one l x) xs ys
 
-pub each_more : (l : Ledger) (xs : List Placed) (x : Placed) → EachVacant l xs → vacant (put_all l xs) x.channel x.content ≡ Ok tt → EachVacant l (xs ++ (x ∷ []))
+each_more : (l : Ledger) (xs : List Placed) (x : Placed) → EachVacant l xs → vacant (put_all l xs) x.channel x.content ≡ Ok tt → EachVacant l (xs ++ (x ∷ []))
 each_more l [] x h v = (v, tt)
 each_more l (y ∷ xs) x h v = (h.0, each_more (put_one l y) xs x h.1 v)
 
-pub each_before : (l : Ledger) (xs : List Placed) (x : Placed) → EachVacant l (xs ++ (x ∷ [])) → EachVacant l xs × (vacant (put_all l xs) x.channel x.content ≡ Ok tt)
+each_before : (l : Ledger) (xs : List Placed) (x : Placed) → EachVacant l (xs ++ (x ∷ [])) → EachVacant l xs × (vacant (put_all l xs) x.channel x.content ≡ Ok tt)
 each_before l [] x h = (tt, h.0)
 each_before l (y ∷ xs) x h = let r = each_before (put_one l y) xs x h.1 in ((h.0, r.0), r.1)
 
@@ -80,7 +80,7 @@ each_take (suc n) l (x ∷ xs) h = (h.0, each_take n (put_one l x) xs h.1)
 pub take_at : (xs : List Placed) (n : ℕ) (x : Placed) → n < length xs → x ≡ get_or xs n x → take (n + 1) xs ≡ take n xs ++ (x ∷ [])
 take_at xs n x h e = take_more xs n x h ∙ ap (λ (y : Placed). take n xs ++ (y ∷ [])) (sym e)
 
-pub put_at_place : (l : Ledger) (xs : List Placed) (n : ℕ) (x : Placed) → n < length xs → x ≡ get_or xs n x → put_all l (take (n + 1) xs) ≡ put_one (put_all l (take n xs)) x
+put_at_place : (l : Ledger) (xs : List Placed) (n : ℕ) (x : Placed) → n < length xs → x ≡ get_or xs n x → put_all l (take (n + 1) xs) ≡ put_one (put_all l (take n xs)) x
 put_at_place l xs n x h e = ap (put_all l) (take_at xs n x h e) ∙ put_all_join l (take n xs) (x ∷ [])
 
 -- Emptying the channel undoes the putting in.
@@ -106,8 +106,7 @@ module _ (l m m' : Ledger) (es : List (ℕ × Entry)) (n : ℕ) (x : ℕ × Entr
   one_more_in o =
       let xs = map placed es in
       let at = placed_at es n x h is in
-      let v : vacant (put_all l (take n xs)) x.0 (content x.1) ≡ Ok tt = ap (λ (k : Ledger). vacant k x.0 (content x.1)) (sym in-it) ∙ sym says ∙ o in
-      (
+      let v : vacant (put_all l (take n xs)) x.0 (content x.1) ≡ Ok tt = ap (λ (k : Ledger). vacant k x.0 (content x.1)) (sym in-it) ∙ sym says ∙ o in (
         subst (EachVacant l) (sym (take_at xs n (placed x) at.0 at.1)) (each_more l (take n xs) (placed x) each v),
         then ∙ ap (λ (q : Result (Unit {0}) Refusal). if_ok q (set m x.0 (Some (content x.1))) m) o ∙ ap (λ (k : Ledger). put_one k (placed x)) in-it ∙ sym (put_at_place l xs n (placed x) at.0 at.1),
       )

@@ -1,11 +1,11 @@
 -- Several tasks put into their channels at once, which is how they are admitted. Only private contracts name these words.
-use Rattle.std.specs.Prelude.{◌≡◌, ℕ, ◌<◌, List, [], ◌∷◌, ◌++◌, ◌+◌, length, take, get_or, Some, None, Ok, Err, Option, Result, slice_set}
+use Rattle.std.specs.Prelude.{◌≡◌, ℕ, ◌<◌, List, [], ◌∷◌, ◌++◌, ◌+◌, length, take, get_or, Some, Ok, Err, Option, Result, slice_set}
 use Rattle.theory.specs.Meaning.{Meaning}
 use Rattle.loads.specs.declared.refusal.Refusal.{Refusal}
 use Rattle.loads.specs.declared.refusal.Refusal.TheVariants.{ChannelFilled}
 use Rattle.loads.specs.Channels.{Content}
 use Rattle.plan.specs.Ledger.{Ledger, labelled, at_channel, admitted}
-use Rattle.plan.specs.Admissions.{Placed, InTurn, in_turn}
+use Rattle.plan.specs.Admissions.{Placed, in_turn}
 
 -- The checks of admit before its verdict: 15, 7, 8.
 abbrev pub vacant : Ledger → ℕ → Content → Result (Unit {0}) Refusal

@@ -17,9 +17,9 @@ pub enum Call {
 /// What a call that is not refused has done.
 #[derive(Clone, Copy)]
 pub enum Done {
-    /// The task stands in its channel now.
+    /// The task stands in its channel.
     Granted,
-    /// The channel is empty now.
+    /// The channel is empty.
     Retired,
     /// What the channel holds.
     Found(Entry),

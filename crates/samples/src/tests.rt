@@ -167,3 +167,48 @@ fn a_plan_as_guest(rt: HostRuntime) -> Result<(), Fail> {
     both_say(&rt, &outer, Ok(8));
     Ok(())
 }
+
+/// Several tasks admitted by one call: none, three, up to one that is late, up to one with a bad label, and over a
+/// guest that is late by itself.
+#[test]
+fn several(rt: HostRuntime) -> Result<(), Fail> {
+    let entries = [
+        (5, entry(LABEL, (1, 10, 6, 0, 0))?),
+        (3, entry(LABEL, (2, 10, 6, 0, 0))?),
+        (9, entry(LABEL, (3, 10, 6, 0, 0))?),
+        (0, entry(LABEL, (4, 10, 8, 0, 0))?),
+        (1, entry(GAP, (1, 10, 10, 0, 0))?),
+    ];
+    let mut three = Plan::make(Idle::new());
+    assert_eq!(rt; three.admit_all(&[]), Ok(None));
+    assert_eq!(rt; three.admit_all(&entries[..3]), Ok(Some(6)));
+    assert_eq!(rt; three.admit_all(&entries), Err((0, Refusal::ChannelFilled)));
+
+    // With the fourth, 10 ticks of work are due within 8. The fifth is not reached.
+    let mut up_to_late = Plan::make(Idle::new());
+    assert_eq!(rt;
+        up_to_late.admit_all(&entries),
+        Err((3, Refusal::Late((8, 10))))
+    );
+    assert_eq!(rt; up_to_late.read(5)?.task.cost(), 1);
+    assert_eq!(rt; up_to_late.read(3)?.task.cost(), 2);
+    assert_eq!(rt; up_to_late.read(9)?.task.cost(), 3);
+    assert_eq!(rt; up_to_late.read(0).err(), Some(Refusal::ChannelEmpty));
+    both_say(&rt, &up_to_late, Ok(6));
+
+    let mut up_to_label = Plan::make(Idle::new());
+    let labels = [entries[0], entries[4], entries[3]];
+    assert_eq!(rt; up_to_label.admit_all(&labels), Err((1, Refusal::BadLabel)));
+    assert_eq!(rt; up_to_label.read(5)?.task.cost(), 1);
+    both_say(&rt, &up_to_label, Ok(1));
+
+    // The guest needs 5 ticks within 4, which is late whatever stands beside it.
+    let mut late = Plan::make(table_of(&[(5, 10, 4, 0, 0)])?);
+    assert_eq!(rt; late.admit_all(&[]), Ok(None));
+    assert_eq!(rt;
+        late.admit_all(&entries[..3]),
+        Err((0, Refusal::Late((4, 5))))
+    );
+    assert_eq!(rt; late.read(5).err(), Some(Refusal::ChannelEmpty));
+    Ok(())
+}

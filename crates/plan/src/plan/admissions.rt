@@ -7,25 +7,11 @@ ghost use Rattle.plan.specs.Promise.{Kept};
 ghost use Rattle.plan.specs.Together.{vacant, put_all, EachVacant, PutIn, Tried, Together};
 
 use super::Plan;
-use crate::label::is_label;
 use loads::entry::Entry;
 use loads::refusal::Refusal;
 use theory::load::Load;
 
 impl<G: Load> Plan<G> {
-    /// The checks of `admit` before its verdict: 15, 7, 8.
-    pub(super) fn check_vacant(&self, channel: u8, entry: &Entry) -> Result<(), Refusal>
-        ensures { result ≡ vacant (ledger self.now) channel (content entry.now) }
-    {
-        if !is_label(&entry.label) {
-            return Err(Refusal::BadLabel);
-        }
-        if self.loads.first.get(channel)?.is_some() {
-            return Err(Refusal::ChannelFilled);
-        }
-        Ok(())
-    }
-
     /// Puts an entry into a channel without a verdict, unless 15, 7 or 8 keeps it out.
     fn put_one(&mut self, channel: u8, entry: Entry) -> Result<(), Refusal>
         ensures says { result ≡ vacant (ledger self.old) channel (content entry) }
@@ -95,7 +81,7 @@ impl<G: Load> Plan<G> {
         ensures guest { guest self.new ≡ guest self.old }
         ensures kept { (before : List a_call) → ledger self.old ≡ after (G.Load.meaning (guest self.old)) blank before
             → Kept (G.Load.meaning (guest self.old)) before (admits (take (tried (length entries.now) result) entries.now))
-                (answers_to (G.Load.meaning (guest self.old)) (ledger self.old) (admits (take (tried (length entries.now) result) entries.now))) (ledger self.new) }
+            (answers_to (G.Load.meaning (guest self.old)) (ledger self.old) (admits (take (tried (length entries.now) result) entries.now))) (ledger self.new) }
     {
         let mut kept = 0;
         let mut busy = None;

@@ -2,6 +2,7 @@ ghost use Rattle.std.specs.Prelude.{◌≡◌, ◌≤◌, [], Some, None, slice_
 ghost use Rattle.loads.specs.Channels.{blank, content, held_content, found_from};
 ghost use Rattle.plan.specs.Ledger.{ledger, guest, weighed, if_ok, admitted, replaced, retired, reading, read_entry, reply, answer_to, next};
 ghost use Rattle.plan.specs.Promise.{Kept};
+ghost use Rattle.plan.specs.Together.{vacant};
 ghost use Rattle.plan.specs.declared.call.Call.TheVariants.{Admit as admit_call, Replace as replace_call, Retire as retire_call};
 
 use super::Plan;
@@ -47,6 +48,19 @@ impl<G: Load> Plan<G> {
                 Err(unfit.into())
             }
         }
+    }
+
+    /// The checks of `admit` before its verdict: 15, 7, 8.
+    pub(super) fn check_vacant(&self, channel: u8, entry: &Entry) -> Result<(), Refusal>
+        ensures { result ≡ vacant (ledger self.now) channel (content entry.now) }
+    {
+        if !is_label(&entry.label) {
+            return Err(Refusal::BadLabel);
+        }
+        if self.loads.first.get(channel)?.is_some() {
+            return Err(Refusal::ChannelFilled);
+        }
+        Ok(())
     }
 
     /// Puts label and task into an empty channel, and gives the busy period of the plan then, in ticks.

@@ -1,3 +1,4 @@
+-- Each turn writes the larger of one place more.
 use Rattle.std.proofs.Common.{◌≡◌, ◌+◌, max, get_or, ap, ◌∙◌, arith, length-set}
 use Rattle.theory.specs.Meaning.{answered}
 use Rattle.theory.proofs.RowPlaces.{row_place, written_more, written_whole}

@@ -3,6 +3,7 @@ use Rattle.theory.specs.Rows.{row}
 use Rattle.theory.proofs.RowPlaces.{Written}
 use Rattle.plan.proofs.beside.row_most.Given as goal
 
+-- The first i places hold the larger of the two.
 abbrev pub invariant-loop-i : goal.invariant-loop-i
 invariant-loop-i l = record {
   places : length l.most ≡ 256;

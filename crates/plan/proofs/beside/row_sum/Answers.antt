@@ -1,3 +1,4 @@
+-- Each turn writes the sum of one place more, cut.
 use Rattle.std.proofs.Common.{◌≡◌, ◌+◌, get_or, ap, ◌∙◌, arith, length-set}
 use Rattle.theory.specs.Meaning.{answered}
 use Rattle.theory.proofs.RowPlaces.{row_place, written_more, written_whole}

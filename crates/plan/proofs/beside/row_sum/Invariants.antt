@@ -3,6 +3,7 @@ use Rattle.theory.specs.Rows.{row}
 use Rattle.theory.proofs.RowPlaces.{Written}
 use Rattle.plan.proofs.beside.row_sum.Given as goal
 
+-- The first i places hold their sums.
 abbrev pub invariant-loop-i : goal.invariant-loop-i
 invariant-loop-i l = record {
   places : length l.sums ≡ 256;

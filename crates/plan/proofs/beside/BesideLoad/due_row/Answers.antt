@@ -1,3 +1,4 @@
+-- The rows of both loads, added up.
 use Rattle.theory.specs.Beside.{beside, both}
 use Rattle.plan.proofs.beside.BesideLoad.due_row.Goals as goal
 

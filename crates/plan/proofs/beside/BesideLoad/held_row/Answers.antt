@@ -1,3 +1,4 @@
+-- The larger of the rows of both loads.
 use Rattle.theory.specs.Beside.{beside, both}
 use Rattle.plan.proofs.beside.BesideLoad.held_row.Goals as goal
 

@@ -1,5 +1,5 @@
 -- Each turn grants a part of what is left, or finds a nearer task that is refused; at the end none is left before it.
-use Rattle.std.proofs.Common.{◌≡◌, ℕ, ◌+◌, ◌-◌, ◌<◌, ◌≤◌, List, map, length, take, drop, Some, None, Ok, Err, Option, Result, sym, refl, ap, ◌∙◌, subst, arith}
+use Rattle.std.proofs.Common.{◌≡◌, ℕ, ◌-◌, ◌<◌, ◌≤◌, List, map, length, take, drop, None, Ok, Err, Option, Result, sym, ap, ◌∙◌, subst, arith}
 use Rattle.loads.specs.declared.refusal.Refusal.{Refusal}
 use Rattle.loads.specs.Channels.{blank}
 use Rattle.plan.specs.declared.call.Call.{Call}
@@ -9,7 +9,7 @@ use Rattle.plan.specs.Together.{AllGranted, Together}
 use Rattle.plan.specs.Promise.{Kept}
 use Rattle.plan.proofs.InTurn.{in_turn_calls}
 use Rattle.plan.proofs.Turns.{kept_calls}
-use Rattle.plan.proofs.Halving.{halving_start, part_placed, half_granted, half_refused, answered, halving_end}
+use Rattle.plan.proofs.Halving.{part_placed, half_granted, half_refused, answered, halving_end}
 use Rattle.plan.proofs.plan.Plan.admit_all.Goals as goal
 use Rattle.plan.proofs.plan.Plan.admit_all.Goals.{in-None, in-Some, Joined-why, After-loop-kept, In-None-why, In-Some-why}
 use Rattle.plan.proofs.plan.Plan.admit_all.Given.{Over}
@@ -58,7 +58,7 @@ module _ (g : Over) (c : After-loop-kept g) (r : Result (Option ℕ) (ℕ × Ref
 
   kept : (before : List Call) → ledger c.args.self.now ≡ after (g.G.Load.meaning (guest c.args.self.now)) blank before
       → Kept (g.G.Load.meaning (guest c.args.self.now)) before (admits (take (tried (length c.args.entries.now) r) c.args.entries.now))
-          (answers_to (g.G.Load.meaning (guest c.args.self.now)) (ledger c.args.self.now) (admits (take (tried (length c.args.entries.now) r) c.args.entries.now))) (ledger c.loop-kept.self)
+      (answers_to (g.G.Load.meaning (guest c.args.self.now)) (ledger c.args.self.now) (admits (take (tried (length c.args.entries.now) r) c.args.entries.now))) (ledger c.loop-kept.self)
   kept = kept_calls (g.G.Load.meaning (guest c.args.self.now)) (g.met.G.Load.lawful (guest c.args.self.now)) (ledger c.args.self.now) _ (ledger c.loop-kept.self) calls
 
 -- The answer where nothing is refused, and where something is.

@@ -1,6 +1,5 @@
 -- All but the last are put in, and the last is admitted.
-use Rattle.std.proofs.Common.{◌≡◌, ℕ, ◌-◌, Ok, Err, Result, sym, ◌∙◌, rules, length, arith}
-use Rattle.std.specs.Result.{MatchResult, IsErrAnd}
+use Rattle.std.proofs.Common.{◌-◌, sym, ◌∙◌, rules, length, arith}
 use Rattle.std.proofs.lemmas.Result.{err_from_is_err_and}
 use Rattle.loads.specs.Ranged.{slots_ranged}
 use Rattle.std.proofs.lemmas.List.{get_or_default}

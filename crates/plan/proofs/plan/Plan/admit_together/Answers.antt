@@ -1,5 +1,4 @@
 -- Where one is refused, those before it are taken out again.
-use Rattle.std.proofs.Common.{◌≡◌}
 use Rattle.plan.specs.Ledger.{ledger, guest}
 use Rattle.plan.proofs.AtOnce.{none_stays}
 use Rattle.plan.proofs.plan.Plan.admit_together.Goals as goal

@@ -1,9 +1,8 @@
 -- Each turn puts one more in, up to the first that is kept out.
-use Rattle.std.proofs.Common.{◌≡◌, ℕ, Ok, Err, Result, sym, ◌∙◌, rules}
+use Rattle.std.proofs.Common.{◌≡◌, ℕ, Ok, Err, Result, ◌∙◌, rules}
 use Rattle.std.specs.Result.{MatchResult}
 use Rattle.std.proofs.lemmas.Result.{err_from_is_err_and}
 use Rattle.loads.specs.declared.refusal.Refusal.{Refusal}
-use Rattle.plan.specs.Ledger.{guest}
 use Rattle.plan.proofs.MapErr.{ok_kept, err_told}
 use Rattle.plan.proofs.PutTogether.{one_more_in, one_kept_out}
 use Rattle.plan.proofs.plan.Plan.put_in.Goals as goal

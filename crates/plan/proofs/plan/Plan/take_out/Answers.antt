@@ -1,8 +1,8 @@
 -- The entries are taken out from the last to the first.
-use Rattle.std.proofs.Common.{◌≡◌, ◌+◌, ◌-◌, ◌<◌, map, get_or, take, set, length, None, sym, refl, ap, ◌∙◌, arith}
+use Rattle.std.proofs.Common.{◌≡◌, ◌+◌, ◌-◌, map, take, set, length, None, sym, refl, ap, ◌∙◌, arith}
 use Rattle.std.proofs.lemmas.List.{length-map, take_all}
 use Rattle.plan.specs.Ledger.{Ledger, ledger}
-use Rattle.plan.specs.Admissions.{Placed, placed}
+use Rattle.plan.specs.Admissions.{placed}
 use Rattle.plan.specs.Together.{put_all}
 use Rattle.plan.proofs.PutTogether.{taken_out, placed_at}
 use Rattle.plan.proofs.plan.Plan.take_out.Goals as goal

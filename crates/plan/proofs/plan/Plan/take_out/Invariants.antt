@@ -1,4 +1,4 @@
-use Rattle.std.proofs.Common.{◌≡◌, List, map, take}
+use Rattle.std.proofs.Common.{◌≡◌, map, take}
 use Rattle.plan.specs.Ledger.{Ledger, ledger, guest}
 use Rattle.plan.specs.Admissions.{placed}
 use Rattle.plan.specs.Together.{put_all, EachVacant}

@@ -1,6 +1,5 @@
 -- The busy period that is told of several tasks is that of the plan as it stands then.
-use Rattle.std.proofs.Common.{◌≡◌, ℕ, suc, List, [], ◌∷◌, Some, None, Ok, Err, Option, Result, sym, refl, ap, ◌∙◌, subst}
-use Rattle.theory.specs.declared.verdict.Unfit.{Unfit}
+use Rattle.std.proofs.Common.{◌≡◌, ℕ, suc, List, [], ◌∷◌, Some, None, Ok, Err, Option, Result, sym, refl, ap, subst}
 use Rattle.theory.specs.Meaning.{Meaning, Amounts}
 use Rattle.theory.specs.Verdict.{busy, look, over, found}
 use Rattle.loads.specs.declared.refusal.Refusal.{Refusal}

@@ -1,5 +1,5 @@
 -- Several tasks admitted one after another.
-use Rattle.std.specs.Prelude.{ℕ, suc, List, [], ◌∷◌, map, Some, Ok, Err, Option, Result, slice_set}
+use Rattle.std.specs.Prelude.{ℕ, suc, List, [], ◌∷◌, map, length, take, Some, Ok, Err, Option, Result, slice_set}
 use Rattle.theory.specs.Meaning.{Meaning}
 use Rattle.loads.specs.declared.refusal.Refusal.{Refusal}
 use Rattle.loads.specs.declared.entry.Entry.{Entry}
@@ -39,3 +39,7 @@ tried all (Err p) = suc p.0
 -- The calls that admit the entries, one call each.
 abbrev pub admits : List (ℕ × Entry) → List Call
 admits xs = map (λ x. Admit x.0 x.1) xs
+
+-- Those that were tried, where the answer was `r`.
+abbrev pub tried_calls : {X : Type 0} → Result X (ℕ × Refusal) → List (ℕ × Entry) → List Call
+tried_calls r xs = admits (take (tried (length xs) r) xs)

@@ -1,8 +1,8 @@
-ghost use Rattle.std.specs.Prelude.{◌≡◌, ◌≤◌, List, map, length, take, Some, None, slice_set};
+ghost use Rattle.std.specs.Prelude.{◌≡◌, ◌≤◌, List, map, length, Some, None, slice_set};
 ghost use Rattle.loads.specs.Channels.{blank, content};
 ghost use Rattle.plan.specs.declared.call.Call.{Call as a_call};
 ghost use Rattle.plan.specs.Ledger.{Ledger, ledger, guest, if_ok, after, answers_to};
-ghost use Rattle.plan.specs.Admissions.{placed, in_turn, tried, admits};
+ghost use Rattle.plan.specs.Admissions.{placed, in_turn, tried_calls};
 ghost use Rattle.plan.specs.Promise.{Kept};
 ghost use Rattle.plan.specs.Together.{vacant, put_all, EachVacant, PutIn, Tried, Together};
 
@@ -77,11 +77,11 @@ impl<G: Load> Plan<G> {
     /// entries that are accepted together are accepted one after another too.
     pub fn admit_all(&mut self, entries: &[(u8, Entry)]) -> Result<Option<u64>, (usize, Refusal)>
         ensures says { (result, ledger self.new) ≡ in_turn (G.Load.meaning (guest self.old)) 0 None (map placed entries.now) (ledger self.old) }
-        ensures calls { ledger self.new ≡ after (G.Load.meaning (guest self.old)) (ledger self.old) (admits (take (tried (length entries.now) result) entries.now)) }
+        ensures calls { ledger self.new ≡ after (G.Load.meaning (guest self.old)) (ledger self.old) (tried_calls result entries.now) }
         ensures guest { guest self.new ≡ guest self.old }
         ensures kept { (before : List a_call) → ledger self.old ≡ after (G.Load.meaning (guest self.old)) blank before
-            → Kept (G.Load.meaning (guest self.old)) before (admits (take (tried (length entries.now) result) entries.now))
-            (answers_to (G.Load.meaning (guest self.old)) (ledger self.old) (admits (take (tried (length entries.now) result) entries.now))) (ledger self.new) }
+            → Kept (G.Load.meaning (guest self.old)) before (tried_calls result entries.now)
+            (answers_to (G.Load.meaning (guest self.old)) (ledger self.old) (tried_calls result entries.now)) (ledger self.new) }
     {
         let mut kept = 0;
         let mut busy = None;

@@ -8,7 +8,7 @@ use Rattle.format.specs.declared.fault.RecordFault.{RecordFault}
 use Rattle.format.specs.declared.fault.RecordFault.TheVariants.{Image}
 use Rattle.format.specs.Records.{Rec, size, start, after, fault}
 use Rattle.format.specs.Decode.{part, ended, with_rest, passed, records, decode, Piece, rec_in}
-use Rattle.format.specs.Parts.{offset, outcome, behind, pieces, pieces_from}
+use Rattle.format.specs.Parts.{offset, behind, pieces, pieces_from}
 use Rattle.format.proofs.Front.{Read, AllRead, clash, next, part_cases}
 
 -- An item of the iterator over the parts, by plain bytes.
@@ -114,14 +114,6 @@ records_checks (suc n) b at xs = go (part at xs) refl (records_checks n)
 pub decode_checks : (xs : List ℕ) → decode xs ≡ checks start (pieces_from xs (Some 0))
 unfolding decode
 decode_checks xs = records_checks (length xs) start 0 xs
-
--- After a record that passes, the check goes on with the items after it.
-pub goes_on : (b c : Before) (p : Piece) (is : List Item) → Ok c ≡ passed b (offset p) (rec_in p) → outcome (checks b (Ok p ∷ is)) ≡ outcome (checks c is)
-goes_on b c p is e = sym (ap (λ (x : Result Before RecordFault). outcome (by_check (rec_in p) (λ d. checks d is) x)) e) ∙ go (checks c is)
-  where
-    go : (x : AllRead) → outcome (with_rest (rec_in p) x) ≡ outcome x
-    go (Ok rs) = refl
-    go (Err f) = refl
 
 -- Where all records are read: the first of them passes its checks, and those after it are read.
 pub record FirstPasses (b : Before) (p : Piece) (is : List Item) (rs : List Rec) : Type 0 where

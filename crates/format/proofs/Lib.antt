@@ -1,6 +1,4 @@
 pub mod BigEndian
-pub mod Fields
-pub mod Entries
 pub mod RecordBytes
 pub mod Front
 pub mod RoundTrip

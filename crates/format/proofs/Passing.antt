@@ -1,16 +1,15 @@
 -- What the checks say of a record that passes them.
-use Rattle.std.proofs.Common.{◌≡◌, ℕ, ◌<◌, ◌≤◌, Bool, true, false, cond, ◌&&◌, eqb, leb, ltb, Some, None, Ok, Err, Option, Result, sym, refl, arith}
-use Rattle.std.proofs.lemmas.Bool.{leb-true, ltb-true, eqb-true}
+use Rattle.std.proofs.Common.{◌≡◌, ℕ, ◌≤◌, Bool, true, false, cond, ◌&&◌, eqb, leb, Some, None, Ok, Err, Option, Result, sym, refl, arith}
+use Rattle.std.proofs.lemmas.Bool.{leb-true, eqb-true}
 use Rattle.loads.specs.declared.refusal.Refusal.{Refusal}
-use Rattle.loads.specs.declared.refusal.Refusal.TheVariants.{TrainFull, NoChannel, BadLabel, OutOfOrder}
-use Rattle.loads.specs.Params.{FrameParams}
-use Rattle.loads.specs.Making.{task_refusal, frame_refusal}
+use Rattle.loads.specs.declared.refusal.Refusal.TheVariants.{NoChannel, BadLabel, OutOfOrder}
+use Rattle.loads.specs.Making.{task_refusal}
 use Rattle.plan.specs.Labels.{good_label}
 use Rattle.plan.specs.Admissions.{Placed}
 use Rattle.format.specs.declared.before.Before.{Before}
 use Rattle.format.specs.declared.fault.RecordFault.{RecordFault}
 use Rattle.format.specs.declared.fault.RecordFault.TheVariants.{Refused}
-use Rattle.format.specs.Records.{Rec, task_rec, frame_rec, after, fault, out_of_range}
+use Rattle.format.specs.Records.{Rec, task_rec, after, fault, out_of_range}
 use Rattle.format.specs.Decode.{passed}
 use Rattle.format.proofs.Front.{clash}
 
@@ -55,12 +54,3 @@ task_passes b at t p = go (good_label t.content.label) (leb t.channel 63) (leb b
       first = eqb-true b.frames 0 e₃;
       ranged = in_range at (task_refusal t.content.params) q;
     }
-
--- A frame finds room, and its numbers are in range.
-pub frame_passes : (b : Before) (at : ℕ) (f : FrameParams) → fault b at (frame_rec f) ≡ None → (b.frames < 16) × (frame_refusal f ≡ None)
-frame_passes b at f p = go (ltb b.frames 16) refl p
-  where
-    go : (t : Bool) → ltb b.frames 16 ≡ t → cond t (out_of_range at (frame_refusal f)) (Some (Refused TrainFull at)) ≡ None
-        → (b.frames < 16) × (frame_refusal f ≡ None)
-    go true e q = (ltb-true b.frames 16 e, in_range at (frame_refusal f) q)
-    go false e q = faulty (Refused TrainFull at) q

@@ -1,21 +1,19 @@
 -- One pass over the parts of an image checks its records and collects its tasks and its frames.
-use Rattle.std.proofs.Common.{◌≡◌, ℕ, suc, ◌<◌, ◌≤◌, List, [], ◌∷◌, ◌++◌, length, Some, None, Ok, Err, Result, sym, refl, ap, ◌∙◌, append_assoc, arith, length-append}
+use Rattle.std.proofs.Common.{◌≡◌, ℕ, suc, List, [], ◌∷◌, ◌++◌, length, Some, None, Ok, Err, Result, sym, refl, ap, ◌∙◌, append_assoc, arith, length-append}
 use Rattle.std.proofs.lemmas.List.{append-nil}
 use Rattle.theory.specs.Meaning.{Meaning}
 use Rattle.loads.specs.Params.{FrameParams}
 use Rattle.loads.specs.Channels.{Channels}
 use Rattle.plan.specs.Admissions.{Placed, in_turn}
 use Rattle.format.specs.declared.before.Before.{Before}
-use Rattle.format.specs.declared.fault.ImageFault.{ImageFault}
 use Rattle.format.specs.declared.fault.RecordFault.{RecordFault}
-use Rattle.format.specs.declared.fault.RecordFault.TheVariants.{Image}
 use Rattle.format.specs.Records.{Rec, task_rec, frame_rec, in_order, start, after, task_in, frame_in}
 use Rattle.format.specs.Decode.{decode, passed, Piece, task_piece, frame_piece, rec_in, with_rest, tasks_in, frames_in}
 use Rattle.format.specs.Parts.{offset, pieces_from}
 use Rattle.format.specs.Fills.{Taken, taken, filled_by, filled}
 use Rattle.format.proofs.Front.{AllRead}
 use Rattle.format.proofs.Items.{Item, by_check, checks, decode_checks}
-use Rattle.format.proofs.Passing.{passed_is, Passes, task_passes, frame_passes}
+use Rattle.format.proofs.Passing.{passed_is, Passes, task_passes}
 
 -- Records that were read, before what the reading of the others answers.
 abbrev pub joined : List Rec → AllRead → AllRead
@@ -45,15 +43,11 @@ frame_last (t ∷ ts) fs f = ap (λ (rs : List Rec). task_rec t ∷ rs) (frame_l
 -- are left.
 pub record Reading (xs : List ℕ) (b : Before) (ts : List Placed) (fs : List FrameParams) (is : List Item) : Type 0 where
   pub frames : b.frames ≡ length fs
-  pub tasks : length ts ≤ b.least
-  pub least : b.least ≤ 64
   pub rest : decode xs ≡ joined (in_order ts fs) (checks b is)
 
 pub reading_start : (xs : List ℕ) → Reading xs start [] [] (pieces_from xs (Some 0))
 reading_start xs = record {
   frames = refl;
-  tasks = omega arith;
-  least = omega arith;
   rest = decode_checks xs ∙ sym (joined_none (checks start (pieces_from xs (Some 0))));
 }
 
@@ -63,23 +57,17 @@ module _ {xs : List ℕ} {b : Before} {ts : List Placed} {fs : List FrameParams}
       → decode xs ≡ joined (in_order ts fs) (by_check (rec_in p) (λ c. checks c is) x)
   onward p is x k e = k.rest ∙ ap (λ (y : Result Before RecordFault). joined (in_order ts fs) (by_check (rec_in p) (λ c. checks c is) y)) (sym e)
 
-  -- A task that passes its checks finds room, and is read.
+  -- A task that passes its checks is read.
   module _ (bytes : List ℕ) (at : ℕ) (is : List Item) (c : Before) (k : Reading xs b ts fs (Ok (task_piece bytes at) ∷ is)) (e : Ok c ≡ passed b at (task_rec (task_in bytes))) where
     good_task : Passes b (task_in bytes)
     good_task = task_passes b at (task_in bytes) (passed_is b c at (task_rec (task_in bytes)) e).0
-
-    pub room_for_task : length ts < 64
-    room_for_task = omega (arith, good_task.rising, good_task.channel, k.tasks)
 
     pub task_read : Reading xs c (ts ++ (task_in bytes ∷ [])) fs is
     task_read =
         let w = good_task in
         let d : c ≡ after b (task_rec (task_in bytes)) = (passed_is b c at (task_rec (task_in bytes)) e).1 in
-        let n : c.least ≡ suc (task_in bytes).channel = ap (λ (x : Before). x.least) d in
         record {
           frames = ap (λ (x : Before). x.frames) d ∙ k.frames;
-          tasks = omega (arith, n, w.rising, k.tasks, length-append ts (task_in bytes ∷ []));
-          least = omega (arith, n, w.channel);
           rest = onward (task_piece bytes at) is (Ok c) k e
               ∙ joined_more (in_order ts fs) (task_rec (task_in bytes)) (checks c is)
               ∙ ap (λ (rs : List Rec). joined rs (checks c is)) (task_last ts fs (task_in bytes) (sym k.frames ∙ w.first));
@@ -87,29 +75,16 @@ module _ {xs : List ℕ} {b : Before} {ts : List Placed} {fs : List FrameParams}
 
   -- So does a frame.
   module _ (bytes : List ℕ) (at : ℕ) (is : List Item) (c : Before) (k : Reading xs b ts fs (Ok (frame_piece bytes at) ∷ is)) (e : Ok c ≡ passed b at (frame_rec (frame_in bytes))) where
-    pub room_for_frame : length fs < 16
-    room_for_frame = omega (arith, (frame_passes b at (frame_in bytes) (passed_is b c at (frame_rec (frame_in bytes)) e).0).0, k.frames)
-
     pub frame_read : Reading xs c ts (fs ++ (frame_in bytes ∷ [])) is
     frame_read =
         let d : c ≡ after b (frame_rec (frame_in bytes)) = (passed_is b c at (frame_rec (frame_in bytes)) e).1 in
-        let n : c.least ≡ b.least = ap (λ (x : Before). x.least) d in
         let m : c.frames ≡ suc b.frames = ap (λ (x : Before). x.frames) d in
         record {
           frames = omega (arith, m, k.frames, length-append fs (frame_in bytes ∷ []));
-          tasks = omega (arith, n, k.tasks);
-          least = omega (arith, n, k.least);
           rest = onward (frame_piece bytes at) is (Ok c) k e
               ∙ joined_more (in_order ts fs) (frame_rec (frame_in bytes)) (checks c is)
               ∙ ap (λ (rs : List Rec). joined rs (checks c is)) (frame_last ts fs (frame_in bytes));
         }
-
-  -- The first fault, of a record or of the bytes, is that of the image.
-  pub fault_found : {p : Piece} {is : List Item} {e : RecordFault} → Reading xs b ts fs (Ok p ∷ is) → Err e ≡ passed b (offset p) (rec_in p) → decode xs ≡ Err e
-  fault_found {p} {is} {e} k q = onward p is (Err e) k q
-
-  pub fault_item : {e : ImageFault} {is : List Item} → Reading xs b ts fs (Err e ∷ is) → decode xs ≡ Err (Image e)
-  fault_item k = k.rest
 
   -- At the end all records were read.
   pub all_read : Reading xs b ts fs [] → decode xs ≡ Ok (in_order ts fs)

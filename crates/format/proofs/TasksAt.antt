@@ -1,10 +1,8 @@
 -- The tasks of an image that was read stand at its front, 37 bytes each, and keep the ranges.
-use Rattle.std.proofs.Common.{◌≡◌, ℕ, zero, suc, ◌+◌, ◌*◌, ◌<◌, ◌≤◌, true, List, [], ◌∷◌, length, get_or, take, drop, Some, None, Ok, Err, Option, sym, refl, ap, ◌∙◌, subst, arith, length-drop}
-use Rattle.std.proofs.lemmas.List.{length-take-le}
+use Rattle.std.proofs.Common.{◌≡◌, ℕ, zero, suc, ◌+◌, ◌*◌, ◌<◌, ◌≤◌, List, [], ◌∷◌, length, get_or, take, drop, Some, None, Ok, Err, Option, sym, refl, ap, ◌∙◌, subst, arith, length-drop}
 use Rattle.std.proofs.lemmas.Bool.Decides.{nat_tests}
 use Rattle.loads.specs.Params.{TaskParams, FrameParams, TaskRanges}
 use Rattle.loads.specs.Making.{task_refusal}
-use Rattle.plan.specs.Labels.{good_label}
 use Rattle.plan.specs.Admissions.{Placed}
 use Rattle.format.specs.declared.before.Before.{Before}
 use Rattle.format.specs.declared.fault.RecordFault.TheVariants.{Image}
@@ -12,7 +10,6 @@ use Rattle.format.specs.declared.fault.ImageFault.TheVariants.{Trailing}
 use Rattle.format.specs.Records.{Rec, task_rec, size, in_order, start, after, params_in, task_in}
 use Rattle.format.specs.Decode.{part, decode, Piece, rec_in}
 use Rattle.format.specs.Parts.{pieces_from, behind}
-use Rattle.format.proofs.Fields.{field_1}
 use Rattle.format.proofs.Front.{Read, clash, part_cases}
 use Rattle.format.proofs.Items.{checks, decode_checks, items_from, onward, first_passes}
 use Rattle.format.proofs.Passing.{Passes, task_passes}
@@ -70,16 +67,6 @@ few b (t ∷ ts) fs m l =
     let w = task_passes b l.0.0 t l.0.1 in
     omega (arith, w.rising, few (after b (task_rec t)) ts fs (omega (arith, w.channel)) l.1)
 
--- What is known of the task that is read from the bytes `ys`, where that is the task `t` of an image that was read.
-pub record EntryAt (ys : List ℕ) (t : Placed) : Type 0 where
-  pub whole : length ys ≡ 37
-  pub is : t ≡ task_in ys
-  pub channel : get_or ys 18 0 ≡ t.channel
-  pub channel_most : get_or ys 18 0 ≤ 63
-  pub label : good_label (take 16 (drop 2 ys)) ≡ true
-  pub sixteen : length (take 16 (drop 2 ys)) ≡ 16
-  pub ranges : TaskRanges (params_in ys)
-
 module _ (xs : List ℕ) (ts : List Placed) (fs : List FrameParams) (e : decode xs ≡ Ok (in_order ts fs)) where
   pub tasks_at : (i : ℕ) (d : Placed) → i < length ts → (37 * i + 37 ≤ length xs) × (get_or ts i d ≡ task_in (take 37 (drop (37 * i) xs)))
   tasks_at i d h = stand xs start 0 ts fs (sym (decode_checks xs) ∙ e) i (37 * i) d h (omega arith)
@@ -87,25 +74,8 @@ module _ (xs : List ℕ) (ts : List Placed) (fs : List FrameParams) (e : decode 
   passing : (i : ℕ) (d : Placed) → i < length ts → (c : Before) × Passes c (get_or ts i d)
   passing i d h = passes start ts fs (decoded_lawful xs (in_order ts fs) e) i d h
 
-  pub tasks_ranged : (i : ℕ) (d : Placed) → i < length ts → TaskRanges (get_or ts i d).content.params
-  tasks_ranged i d h = in_ranges (get_or ts i d).content.params (passing i d h).1.ranged
+  pub ranges_at : (i : ℕ) (d : Placed) → i < length ts → TaskRanges (params_in (take 37 (drop (37 * i) xs)))
+  ranges_at i d h = subst (λ (t : Placed). TaskRanges t.content.params) (tasks_at i d h).1 (in_ranges (get_or ts i d).content.params (passing i d h).1.ranged)
 
   pub tasks_few : length ts ≤ 64
   tasks_few = omega (arith, few start ts fs (omega arith) (decoded_lawful xs (in_order ts fs) e))
-
-  pub entry_at : (i : ℕ) (d : Placed) → i < length ts → EntryAt (take 37 (drop (37 * i) xs)) (get_or ts i d)
-  entry_at i d h =
-      let ys : List ℕ = take 37 (drop (37 * i) xs) in
-      let a = tasks_at i d h in
-      let w = (passing i d h).1 in
-      let n : length ys ≡ 37 = length-take-le 37 (drop (37 * i) xs) (omega (arith, a.0, length-drop (37 * i) xs)) in
-      let c : get_or ys 18 0 ≡ (get_or ts i d).channel = sym (field_1 18 ys (omega (arith, n))) ∙ ap (λ (t : Placed). t.channel) (sym a.1) in
-      record {
-        whole = n;
-        is = a.1;
-        channel = c;
-        channel_most = omega (arith, c, w.channel);
-        label = subst (λ (t : Placed). good_label t.content.label ≡ true) a.1 w.label;
-        sixteen = length-take-le 16 (drop 2 ys) (omega (arith, n, length-drop 2 ys));
-        ranges = subst (λ (t : Placed). TaskRanges t.content.params) a.1 (tasks_ranged i d h);
-      }

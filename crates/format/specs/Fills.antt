@@ -2,15 +2,13 @@
 use Rattle.std.specs.Prelude.{ℕ, ◌*◌, List, None, Ok, Err, Option, Result}
 use Rattle.theory.specs.Meaning.{Meaning}
 use Rattle.loads.specs.declared.refusal.Refusal.{Refusal}
-use Rattle.loads.specs.declared.entry.Entry.{Entry}
-use Rattle.loads.specs.Params.{TaskParams, FrameParams}
-use Rattle.loads.specs.Channels.{Content, Channels, blank, content}
+use Rattle.loads.specs.Params.{FrameParams}
+use Rattle.loads.specs.Channels.{Channels, blank}
 use Rattle.plan.specs.declared.call.Call.{Call}
 use Rattle.plan.specs.Ledger.{after, answers_to}
 use Rattle.plan.specs.Promise.{Kept}
 use Rattle.plan.specs.Admissions.{InTurn, in_turn}
 use Rattle.format.specs.declared.fault.RecordFault.{RecordFault}
-use Rattle.format.specs.declared.fault.RecordFault.TheVariants as in_record
 use Rattle.format.specs.declared.fault.PlanFault.{PlanFault}
 use Rattle.format.specs.declared.fault.PlanFault.TheVariants.{Record, Refused}
 use Rattle.format.specs.Records.{Rec}
@@ -29,21 +27,6 @@ Filled = Result (Unit {0}) PlanFault × Channels
 abbrev pub taken : Result (List Rec) RecordFault → List FrameParams → Taken
 taken (Ok rs) held = (Ok tt, frames_in rs)
 taken (Err e) held = (Err e, held)
-
--- What a making answers, its refusal told as the fault of the record at `at`.
-abbrev pub ranged : {A : Type 0} → ℕ → Result A Refusal → Result A RecordFault
-ranged at (Ok x) = Ok x
-ranged at (Err e) = Err (in_record.Refused e at)
-
--- Label and task together, unless the task is refused.
-abbrev pub content_made : List ℕ → Result TaskParams Refusal → Result Content Refusal
-content_made label (Ok p) = Ok (record { label = label; params = p })
-content_made label (Err e) = Err e
-
--- The making of an entry by the code, the entry by plain numbers.
-abbrev pub entry_made : Result Entry RecordFault → Result Content RecordFault
-entry_made (Ok e) = Ok (content e)
-entry_made (Err e) = Err e
 
 -- A refused task told by the offset of its record: tasks come first in an image that was read, and each takes 37 bytes.
 abbrev pub at_offset : {X : Type 0} → Result X (ℕ × Refusal) → Result X PlanFault

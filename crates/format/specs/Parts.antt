@@ -2,10 +2,9 @@
 use Rattle.std.specs.Prelude.{ℕ, zero, suc, ◌+◌, List, [], ◌∷◌, length, drop, Some, None, Ok, Err, Option, Result}
 use Rattle.format.specs.declared.fault.ImageFault.{ImageFault}
 use Rattle.format.specs.declared.fault.ImageFault.TheVariants.{Cut, Trailing}
-use Rattle.format.specs.declared.fault.RecordFault.{RecordFault}
 use Rattle.format.specs.declared.part.Part.{Part}
 use Rattle.format.specs.declared.part.Part.TheVariants as lent
-use Rattle.format.specs.Records.{Rec, size}
+use Rattle.format.specs.Records.{size}
 use Rattle.format.specs.Decode.{part, Piece, task_piece, frame_piece, rec_in}
 
 -- A borrowed part, by the bytes that it borrows and their offset.
@@ -23,11 +22,6 @@ shown (Err e) = Err e
 abbrev pub offset : Piece → ℕ
 offset (task_piece xs at) = at
 offset (frame_piece xs at) = at
-
--- Whether all is well, or the first fault.
-abbrev pub outcome : Result (List Rec) RecordFault → Result (Unit {0}) RecordFault
-outcome (Ok rs) = Ok tt
-outcome (Err e) = Err e
 
 -- After the end mark no parts follow; 14 where a byte does.
 abbrev pub behind : ℕ → List ℕ → List (Result Piece ImageFault)

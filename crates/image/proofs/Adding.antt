@@ -1,11 +1,11 @@
 -- A record that is added to those read so far is read.
-use Rattle.std.proofs.Common.{◌≡◌, ℕ, ◌+◌, List, [], ◌∷◌, ◌++◌, length, Ok, Result, sym, ap, ◌∙◌, subst, arith, length-append}
+use Rattle.std.proofs.Common.{◌≡◌, ℕ, List, [], ◌∷◌, ◌++◌, length, Ok, Result, sym, ap, ◌∙◌, subst, arith, length-append}
 use Rattle.loads.specs.Params.{FrameParams}
 use Rattle.loads.specs.Train.{frames_of}
 use Rattle.plan.specs.Admissions.{Placed}
 use Rattle.format.specs.declared.before.Before.{Before}
 use Rattle.format.specs.declared.fault.RecordFault.{RecordFault}
-use Rattle.format.specs.Records.{Rec, task_in, frame_in, in_order}
+use Rattle.format.specs.Records.{Rec, task_in, in_order}
 use Rattle.format.specs.Decode.{decode, Piece, task_piece, frame_piece, tasks_in, frames_in}
 use Rattle.format.proofs.Items.{Item}
 use Rattle.format.proofs.Reading.{Reading, task_read, frame_read, all_read, tasks_in_order, frames_in_order}

@@ -1,18 +1,17 @@
 -- From the answers of the calls that the verdict makes to the verdict of an image.
-use Rattle.std.proofs.Common.{◌≡◌, ℕ, ◌+◌, ◌*◌, max, List, [], Some, None, Ok, Err, Option, Result, sym, refl, ap, ◌∙◌, subst, zero-add, arith}
+use Rattle.std.proofs.Common.{◌≡◌, ℕ, ◌*◌, max, List, [], Some, None, Ok, Err, Option, Result, sym, ap, ◌∙◌, zero-add, arith}
 use Rattle.std.specs.Option.{unwrap_or}
 use Rattle.theory.specs.declared.verdict.Unfit.{Unfit}
 use Rattle.theory.specs.Meaning.{Amounts, Rules, Meaning, Laws}
 use Rattle.theory.specs.Beside.{beside, both}
-use Rattle.theory.specs.Verdict.{busy, walk, Accepted}
+use Rattle.theory.specs.Verdict.{busy, walk}
 use Rattle.theory.proofs.Verdicts.{accepted_ok, yes_exactly}
-use Rattle.loads.specs.Params.{TaskParams, FrameParams}
+use Rattle.loads.specs.Params.{TaskParams}
 use Rattle.loads.specs.Tasks.{tasks_meaning, tasks_amounts}
-use Rattle.loads.specs.Channels.{Channels, blank, filled}
+use Rattle.loads.specs.Channels.{Channels, blank}
 use Rattle.loads.specs.Train.{train_meaning}
 use Rattle.loads.proofs.Fewer.{none_filled}
 use Rattle.plan.specs.Ledger.{plan, refusal_of}
-use Rattle.plan.specs.Promise.{Kept}
 use Rattle.plan.specs.Admissions.{InTurn, in_turn}
 use Rattle.plan.proofs.BusyTold.{nothing_told, busy_told}
 use Rattle.format.specs.declared.fault.RecordFault.{RecordFault}
@@ -98,8 +97,7 @@ module _ (xs : List ℕ) (rs : List Rec) (d : decode xs ≡ Ok rs) (lg : Laws (t
     all_admitted o l a k =
         let g = train_meaning (frames_in rs) in
         let c = closes o l (all_granted (in_turn g 0 None (tasks_in rs) blank) o l a) in
-        let all = entered_is (Ok o, l) a in
-        (
+        let all = entered_is (Ok o, l) a in (
           sym (walked (Ok w) e ∙ ap (over_plan g) all ∙ ap (λ (b : Option ℕ). let j : Judged = Ok (busy_or_zero b) in j) c),
           record { records = rs; read = d; ledger = l; admitted_all = all; closes = c; never_late = k.1.never_late (accepted_ok g.amounts lg.rules w e) },
         )

@@ -1,5 +1,5 @@
 -- The verdict of an image, from the reading of it, the verdict on its train alone and the admitting of its tasks.
-use Rattle.std.proofs.Common.{◌≡◌, ℕ, List, [], Ok, Err, Option, Result, sym, refl, ap, ◌∙◌, subst, rules}
+use Rattle.std.proofs.Common.{◌≡◌, ℕ, List, [], Ok, Err, Option, Result, sym, ap, ◌∙◌, subst, rules}
 use Rattle.std.specs.Option.{unwrap_or}
 use Rattle.std.specs.Result.{MatchResult}
 use Rattle.std.proofs.lemmas.Result.{err_from_is_err_and}
@@ -17,7 +17,7 @@ use Rattle.format.specs.declared.fault.PlanFault.TheVariants.{Refused}
 use Rattle.loads.specs.Channels.{Channels, blank}
 use Rattle.format.specs.Decode.{frames_in}
 use Rattle.format.specs.Fills.{admitted_to, KeptAgain}
-use Rattle.image.specs.Verdict.{first_frame, judged, YesMeans}
+use Rattle.image.specs.Verdict.{first_frame, YesMeans}
 use Rattle.image.specs.Whole.{records_of}
 use Rattle.image.proofs.Judging.{ToldAt, unread, train_refused, task_refused, all_admitted}
 use Rattle.image.proofs.verdict.judge_image.Goals as goal

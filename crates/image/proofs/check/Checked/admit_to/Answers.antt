@@ -1,6 +1,6 @@
 -- The tasks are admitted, and a refused one is told at the offset of its record; without tasks nothing changes.
-use Rattle.std.proofs.Common.{◌≡◌, ℕ, ◌*◌, ◌<◌, [], None, Ok, Err, Result, List, map, take, length, sym, refl, ap, ◌∙◌, arith}
-use Rattle.std.proofs.lemmas.List.{length-map, nil_from_length}
+use Rattle.std.proofs.Common.{◌≡◌, [], None, List, map, take, length, sym, ap, arith}
+use Rattle.std.proofs.lemmas.List.{nil_from_length}
 use Rattle.plan.specs.Ledger.{ledger, guest}
 use Rattle.plan.specs.Admissions.{Placed, placed, InTurn, in_turn}
 use Rattle.plan.proofs.InTurn.{place_within}

@@ -1,9 +1,8 @@
 -- The record lies within the image.
-use Rattle.std.proofs.Common.{◌<◌, ◌*◌, ◌+◌, ◌≤◌, length, [], arith}
+use Rattle.std.proofs.Common.{[], arith}
 use Rattle.format.specs.Records.{task_in}
 use Rattle.format.specs.Decode.{tasks_in, frames_in}
 use Rattle.format.proofs.TasksAt.{tasks_few, tasks_at}
-use Rattle.image.specs.declared.check.Checked.{Checked}
 use Rattle.image.specs.Whole.{records_of}
 use Rattle.image.proofs.InOrder.{ordered}
 use Rattle.image.proofs.check.Checked.record.Goals as goal

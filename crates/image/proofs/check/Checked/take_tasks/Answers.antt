@@ -1,5 +1,5 @@
 -- Each turn takes one task more.
-use Rattle.std.proofs.Common.{◌≡◌, ◌<◌, ◌+◌, List, [], ◌∷◌, ◌++◌, map, take, length, get_or, set, refl, sym, ap, ◌∙◌, arith, length-set, take_all}
+use Rattle.std.proofs.Common.{◌≡◌, List, [], ◌∷◌, ◌++◌, map, take, sym, ap, ◌∙◌, arith, length-set, take_all}
 use mathlib.Core.List.{map-append}
 use Rattle.std.proofs.lemmas.List.{take_more, take_more_set}
 use Rattle.plan.specs.Admissions.{Placed, placed}

@@ -1,7 +1,7 @@
 -- Channels rise, so there are no more tasks than channels.
-use Rattle.std.proofs.Common.{◌≡◌, ap, ◌∙◌, arith}
+use Rattle.std.proofs.Common.{ap, ◌∙◌, arith}
 use Rattle.format.specs.declared.before.Before.{Before}
-use Rattle.format.specs.Records.{task_rec, task_in, after}
+use Rattle.format.specs.Records.{task_rec, task_in}
 use Rattle.format.proofs.Passing.{passed_is, task_passes}
 use Rattle.image.proofs.records.Records.add_task.Goals as goal
 

@@ -1,16 +1,16 @@
 -- One pass over the parts of an image checks its records and collects its tasks and its frames.
-use Rattle.std.proofs.Common.{◌≡◌, ℕ, suc, List, [], ◌∷◌, ◌++◌, length, Some, None, Ok, Err, Result, sym, refl, ap, ◌∙◌, append_assoc, arith, length-append}
+use Rattle.std.proofs.Common.{◌≡◌, ℕ, suc, List, [], ◌∷◌, ◌++◌, length, Some, None, Ok, Err, Result, sym, refl, ap, ◌∙◌, append_assoc, arith, length-append, ◌<◌, zero, ◌+◌, ◌*◌}
 use Rattle.std.proofs.lemmas.List.{append-nil}
 use Rattle.theory.specs.Meaning.{Meaning}
 use Rattle.loads.specs.Params.{FrameParams}
 use Rattle.loads.specs.Channels.{Channels}
-use Rattle.plan.specs.Admissions.{Placed, in_turn}
+use Rattle.plan.specs.Admissions.{Placed, InTurn}
 use Rattle.format.specs.declared.before.Before.{Before}
 use Rattle.format.specs.declared.fault.RecordFault.{RecordFault}
 use Rattle.format.specs.Records.{Rec, task_rec, frame_rec, in_order, start, after, task_in, frame_in}
 use Rattle.format.specs.Decode.{decode, passed, Piece, task_piece, frame_piece, rec_in, with_rest, tasks_in, frames_in}
 use Rattle.format.specs.Parts.{offset, pieces_from}
-use Rattle.format.specs.Fills.{Taken, taken, filled_by, filled}
+use Rattle.format.specs.Fills.{Taken, Filled, taken, task_offset, told_at, filled_by}
 use Rattle.format.proofs.Front.{AllRead}
 use Rattle.format.proofs.Items.{Item, by_check, checks, decode_checks}
 use Rattle.format.proofs.Passing.{passed_is, Passes, task_passes}
@@ -101,10 +101,19 @@ frames_in_order [] [] = refl
 frames_in_order [] (f ∷ fs) = ap (λ (gs : List FrameParams). f ∷ gs) (frames_in_order [] fs)
 frames_in_order (t ∷ ts) fs = frames_in_order ts fs
 
--- So train and plan get what was collected.
-module _ (xs : List ℕ) (ts : List Placed) (fs : List FrameParams) (d : decode xs ≡ Ok (in_order ts fs)) where
-  pub taken_is : (held : List FrameParams) → taken (decode xs) held ≡ (Ok tt, fs)
-  taken_is held = ap (λ (x : AllRead). taken x held) d ∙ ap (λ (gs : List FrameParams). let x : Taken = (Ok tt, gs) in x) (frames_in_order ts fs)
+-- What filling answers, by what admitting the tasks of the records answers.
+abbrev pub entering : List Rec → InTurn → Filled
+entering rs x = filled_by (told_at rs x)
 
-  pub filled_is : (g : Meaning) (l : Channels) → filled g (decode xs) l ≡ filled_by (in_turn g 0 None ts l)
-  filled_is g l = ap (λ (x : AllRead). filled g x l) d ∙ ap (λ (us : List Placed). filled_by (in_turn g 0 None us l)) (tasks_in_order ts fs)
+-- The offset of a task that was read: tasks come first, 37 bytes each.
+offset_from : (at n : ℕ) (ts : List Placed) (fs : List FrameParams) → n < length ts → task_offset at n (in_order ts fs) ≡ at + 37 * n
+offset_from at n [] fs h = absurd (omega arith)
+offset_from at zero (t ∷ ts) fs h = omega arith
+offset_from at (suc n) (t ∷ ts) fs h = offset_from (at + 37) n ts fs (omega arith) ∙ omega arith
+
+pub offset_is : (n : ℕ) (ts : List Placed) (fs : List FrameParams) → n < length ts → task_offset 0 n (in_order ts fs) ≡ 37 * n
+offset_is n ts fs h = offset_from 0 n ts fs h ∙ omega arith
+
+-- So the train gets what was collected.
+pub taken_is : (xs : List ℕ) (ts : List Placed) (fs : List FrameParams) → decode xs ≡ Ok (in_order ts fs) → (held : List FrameParams) → taken (decode xs) held ≡ (Ok tt, fs)
+taken_is xs ts fs d held = ap (λ (x : AllRead). taken x held) d ∙ ap (λ (gs : List FrameParams). let x : Taken = (Ok tt, gs) in x) (frames_in_order ts fs)

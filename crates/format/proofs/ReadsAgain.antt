@@ -22,9 +22,10 @@ use Rattle.plan.specs.Admissions.{Placed, InTurn, in_turn}
 use Rattle.plan.proofs.Reach.{Keeps, after_keeps, after_ranged, plan_laws, after_stands}
 use Rattle.format.specs.Decode.{decode}
 use Rattle.format.specs.Encode.{placed_in, tasks, contents, encode}
-use Rattle.format.specs.Fills.{Filled, filled_by}
+use Rattle.format.specs.Records.{Rec}
+use Rattle.format.specs.Fills.{Filled, filled}
 use Rattle.format.specs.Statements.{WritableChannel, Writable, ReadsAgain}
-use Rattle.format.proofs.Reading.{taken_is, filled_is}
+use Rattle.format.proofs.Reading.{taken_is, tasks_in_order, entering}
 use Rattle.format.proofs.RoundTrip.{reads_back}
 
 -- Every ledger that calls can reach can be written.
@@ -73,7 +74,7 @@ unfolding in_turn
 entered_ok g n w o t ts l e =
     ap (λ (r : Result ℕ Refusal). let x : InTurn = elim r [ Err f ↦ (Err (n, f), l) | Ok v ↦ in_turn g (suc n) (Some v) ts (set l t.channel (Some t.content)) ] in x) e
 
-module _ (g : Meaning) (lg : Laws g) (l : Channels) (w : Writable l) (sixty-four : length l ≡ 64) (r : Ranged l) (a : Accepted (plan g l).amounts) where
+module _ (g : Meaning) (lg : Laws g) (l : Channels) (w : Writable l) (sixty-four : length l ≡ 64) (r : Ranged l) (a : Accepted (plan g l).amounts) (qs : List Rec) where
   -- As many empty channels.
   none : Channels → Channels
   none rest = replicate (length rest) None
@@ -104,35 +105,35 @@ module _ (g : Meaning) (lg : Laws g) (l : Channels) (w : Writable l) (sixty-four
       (v.0, rw (y, b, o) z)
 
   -- With the first tasks back in their channels, the other tasks are admitted too.
-  refill : (c n : ℕ) (o : Option ℕ) (pre rest : Channels) → pre ++ rest ≡ l → length pre ≡ c → filled_by (in_turn g n o (tasks c rest) (pre ++ none rest)) ≡ (Ok tt, l)
+  refill : (c n : ℕ) (o : Option ℕ) (pre rest : Channels) → pre ++ rest ≡ l → length pre ≡ c → entering qs (in_turn g n o (tasks c rest) (pre ++ none rest)) ≡ (Ok tt, l)
   unfolding none in_turn
   refill c n o pre [] e q = ap (λ (x : Channels). let d : Filled = (Ok tt, x) in d) e
   refill c n o pre (None ∷ rest) e q =
-      ap (λ (x : Channels). filled_by (in_turn g n o (tasks (suc c) rest) x)) (sym (append_assoc pre (None ∷ []) (replicate (length rest) None)))
+      ap (λ (x : Channels). entering qs (in_turn g n o (tasks (suc c) rest) x)) (sym (append_assoc pre (None ∷ []) (replicate (length rest) None)))
       ∙ refill (suc c) n o (pre ++ (None ∷ [])) rest (append_assoc pre (None ∷ []) rest ∙ e) (length-append pre (None ∷ []) ∙ omega arith)
   refill c n o pre (Some k ∷ rest) e q =
       let v = admits c pre rest k e q in
-      ap filled_by (entered_ok g n v.0 o (placed_in c k) (tasks (suc c) rest) (pre ++ (None ∷ replicate (length rest) None)) v.1)
-      ∙ ap (λ (x : Channels). filled_by (in_turn g (suc n) (Some v.0) (tasks (suc c) rest) x)) (set_at pre c None (Some k) (replicate (length rest) None) q ∙ sym (append_assoc pre (Some k ∷ []) (replicate (length rest) None)))
+      ap (entering qs) (entered_ok g n v.0 o (placed_in c k) (tasks (suc c) rest) (pre ++ (None ∷ replicate (length rest) None)) v.1)
+      ∙ ap (λ (x : Channels). entering qs (in_turn g (suc n) (Some v.0) (tasks (suc c) rest) x)) (set_at pre c None (Some k) (replicate (length rest) None) q ∙ sym (append_assoc pre (Some k ∷ []) (replicate (length rest) None)))
       ∙ refill (suc c) (suc n) (Some v.0) (pre ++ (Some k ∷ [])) rest (append_assoc pre (Some k ∷ []) rest ∙ e) (length-append pre (Some k ∷ []) ∙ omega arith)
 
-  refilled : filled_by (in_turn g 0 None (tasks 0 l) blank) ≡ (Ok tt, l)
+  refilled : entering qs (in_turn g 0 None (tasks 0 l) blank) ≡ (Ok tt, l)
   unfolding none
-  refilled = ap (λ (i : ℕ). filled_by (in_turn g 0 None (tasks 0 l) (replicate i None))) (sym sixty-four) ∙ refill 0 0 None [] l refl refl
+  refilled = ap (λ (i : ℕ). entering qs (in_turn g 0 None (tasks 0 l) (replicate i None))) (sym sixty-four) ∙ refill 0 0 None [] l refl refl
 
 tasks_blank : (n c : ℕ) → tasks c (replicate n None) ≡ []
 tasks_blank zero c = refl
 tasks_blank (suc n) c = tasks_blank n (suc c)
 
-reached_back : (g : Meaning) → Laws g → (ks : List Call) → filled_by (in_turn g 0 None (tasks 0 (after g blank ks)) blank) ≡ (Ok tt, after g blank ks)
+reached_back : (g : Meaning) → Laws g → (qs : List Rec) (ks : List Call) → entering qs (in_turn g 0 None (tasks 0 (after g blank ks)) blank) ≡ (Ok tt, after g blank ks)
 unfolding in_turn
-reached_back g lg ks = go (after_stands g lg ks)
+reached_back g lg qs ks = go (after_stands g lg ks)
   where
-    go : Accepted (plan g (after g blank ks)).amounts ⊎ (after g blank ks ≡ blank) → filled_by (in_turn g 0 None (tasks 0 (after g blank ks)) blank) ≡ (Ok tt, after g blank ks)
-    go (inl a) = refilled g lg (after g blank ks) (after_writable g ks) (after_length g ks) (after_ranged g ks) a
+    go : Accepted (plan g (after g blank ks)).amounts ⊎ (after g blank ks ≡ blank) → entering qs (in_turn g 0 None (tasks 0 (after g blank ks)) blank) ≡ (Ok tt, after g blank ks)
+    go (inl a) = refilled g lg (after g blank ks) (after_writable g ks) (after_length g ks) (after_ranged g ks) a qs
     go (inr e) =
-        ap (λ (x : Channels). filled_by (in_turn g 0 None (tasks 0 x) blank)) e
-        ∙ ap (λ (ts : List Placed). filled_by (in_turn g 0 None ts blank)) (tasks_blank 64 0)
+        ap (λ (x : Channels). entering qs (in_turn g 0 None (tasks 0 x) blank)) e
+        ∙ ap (λ (ts : List Placed). entering qs (in_turn g 0 None ts blank)) (tasks_blank 64 0)
         ∙ ap (λ (x : Channels). let d : Filled = (Ok tt, x) in d) (sym e)
 
 pub reads_again : (g : Meaning) → Laws g → (before : List Call) (l : Channels) (fs : List FrameParams) → l ≡ after g blank before → length fs ≤ 16 → All FrameRanges fs → ReadsAgain g l fs
@@ -143,6 +144,7 @@ reads_again g lg before l fs e h r =
     record {
       records = d;
       frames = taken_is (encode l fs) (tasks 0 l) fs d;
-      channels = filled_is (encode l fs) (tasks 0 l) fs d g blank
-          ∙ subst (λ (x : Channels). filled_by (in_turn g 0 None (tasks 0 x) blank) ≡ (Ok tt, x)) (sym e) (reached_back g lg before);
+      channels = ap (λ x. filled g x blank) d
+          ∙ ap (λ (ts : List Placed). entering (contents l fs) (in_turn g 0 None ts blank)) (tasks_in_order (tasks 0 l) fs)
+          ∙ subst (λ (x : Channels). entering (contents l fs) (in_turn g 0 None (tasks 0 x) blank) ≡ (Ok tt, x)) (sym e) (reached_back g lg (contents l fs) before);
     }

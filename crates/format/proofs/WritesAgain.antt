@@ -14,9 +14,10 @@ use Rattle.format.specs.Bytes.{Bytes}
 use Rattle.format.specs.Records.{Rec, task_rec, frame_rec, in_order, start, after}
 use Rattle.format.specs.Decode.{decode, tasks_in, frames_in}
 use Rattle.format.specs.Encode.{image, placed_in, tasks, encode}
-use Rattle.format.specs.Fills.{Filled, Taken, taken, filled_by, filled}
+use Rattle.format.specs.Fills.{Filled, Taken, taken, task_offset, filled}
 use Rattle.format.specs.Statements.{WritesAgain}
 use Rattle.format.proofs.Front.{clash}
+use Rattle.format.proofs.Reading.{entering}
 use Rattle.format.proofs.RoundTrip.{writes_back}
 use Rattle.format.proofs.Passing.{task_passes}
 use Rattle.format.proofs.Rising.{Lawful, decoded_lawful, no_tasks, Empty, empty_blank, empty_from, empty_above, tasks_set}
@@ -31,21 +32,21 @@ sorted b (frame_rec f ∷ rs) k =
     ∙ ap (λ (ts : List Placed). frame_rec f ∷ in_order ts (frames_in rs)) (sym e)
     ∙ ap (λ (qs : List Rec). frame_rec f ∷ qs) (sorted (after b (frame_rec f)) rs k.1)
 
-module _ (g : Meaning) where
+module _ (g : Meaning) (qs : List Rec) where
   -- Where all tasks are entered, the first is, and then the others.
-  granted : (n : ℕ) (o : Option ℕ) (t : Placed) (ts : List Placed) (l m : Channels) → filled_by (in_turn g n o (t ∷ ts) l) ≡ (Ok tt, m)
-      → (w : ℕ) × (filled_by (in_turn g (suc n) (Some w) ts (set l t.channel (Some t.content))) ≡ (Ok tt, m))
+  granted : (n : ℕ) (o : Option ℕ) (t : Placed) (ts : List Placed) (l m : Channels) → entering qs (in_turn g n o (t ∷ ts) l) ≡ (Ok tt, m)
+      → (w : ℕ) × (entering qs (in_turn g (suc n) (Some w) ts (set l t.channel (Some t.content))) ≡ (Ok tt, m))
   unfolding in_turn
   granted n o t ts l m p = go (admitted g l t.channel t.content) p
     where
-      go : (r : Result ℕ Refusal) → filled_by (elim r [ Err e ↦ (Err (n, e), l) | Ok w ↦ in_turn g (suc n) (Some w) ts (set l t.channel (Some t.content)) ]) ≡ (Ok tt, m)
-          → (w : ℕ) × (filled_by (in_turn g (suc n) (Some w) ts (set l t.channel (Some t.content))) ≡ (Ok tt, m))
+      go : (r : Result ℕ Refusal) → entering qs (elim r [ Err e ↦ (Err (n, e), l) | Ok w ↦ in_turn g (suc n) (Some w) ts (set l t.channel (Some t.content)) ]) ≡ (Ok tt, m)
+          → (w : ℕ) × (entering qs (in_turn g (suc n) (Some w) ts (set l t.channel (Some t.content))) ≡ (Ok tt, m))
       go (Ok w) q = (w, q)
-      go (Err e) q = clash (Refused e (37 * n)) tt (ap (λ (x : Filled). x.0) q)
+      go (Err e) q = clash (Refused e (task_offset 0 n qs)) tt (ap (λ (x : Filled). x.0) q)
 
   -- Where all tasks are entered, those of the ledger then are those before and those of the records.
   all_entered : (b : Before) (n : ℕ) (o : Option ℕ) (rs : List Rec) (l m : Channels) → Lawful b rs → length l ≡ 64 → Empty (drop b.least l)
-      → filled_by (in_turn g n o (tasks_in rs) l) ≡ (Ok tt, m) → tasks 0 m ≡ tasks 0 l ++ tasks_in rs
+      → entering qs (in_turn g n o (tasks_in rs) l) ≡ (Ok tt, m) → tasks 0 m ≡ tasks 0 l ++ tasks_in rs
   unfolding in_turn
   all_entered b n o [] l m k s h p = ap (λ (x : Filled). tasks 0 x.1) (sym p) ∙ sym (append-nil (tasks 0 l))
   all_entered b n o (frame_rec f ∷ rs) l m k s h p = all_entered (after b (frame_rec f)) n o rs l m k.1 s h p
@@ -60,16 +61,16 @@ module _ (g : Meaning) where
       ∙ ap (λ (ts : List Placed). ts ++ tasks_in rs) (tasks_set 0 c l e (omega (arith, w.channel)) now ∙ ap (λ (i : ℕ). tasks 0 l ++ (placed_in i e ∷ [])) (zero-add c))
       ∙ append_assoc (tasks 0 l) (t ∷ []) (tasks_in rs)
 
-  -- The statement, by what was read.
-  again : (xs : List ℕ) (l : Channels) (fs before : List FrameParams) (x : Result (List Rec) RecordFault) → decode xs ≡ x → Bytes xs
-      → filled g x blank ≡ (Ok tt, l) → taken x before ≡ (Ok tt, fs) → encode l fs ≡ xs
-  unfolding decode
-  again xs l fs before (Err e) d h p q = clash (Record e) tt (ap (λ (y : Filled). y.0) p)
-  again xs l fs before (Ok rs) d h p q =
-      let k = decoded_lawful xs rs d in
-      let t : tasks 0 l ≡ tasks_in rs = all_entered start 0 None rs blank l k refl (empty_blank 64) p in
-      let f : fs ≡ frames_in rs = ap (λ (y : Taken). y.1) (sym q) in
-      ap image (ap₂ in_order t f ∙ sorted start rs k) ∙ writes_back xs rs h d
+-- The statement, by what was read.
+again : (g : Meaning) (xs : List ℕ) (l : Channels) (fs before : List FrameParams) (x : Result (List Rec) RecordFault) → decode xs ≡ x → Bytes xs
+    → filled g x blank ≡ (Ok tt, l) → taken x before ≡ (Ok tt, fs) → encode l fs ≡ xs
+unfolding decode
+again g xs l fs before (Err e) d h p q = clash (Record e) tt (ap (λ (y : Filled). y.0) p)
+again g xs l fs before (Ok rs) d h p q =
+    let k = decoded_lawful xs rs d in
+    let t : tasks 0 l ≡ tasks_in rs = all_entered g rs start 0 None rs blank l k refl (empty_blank 64) p in
+    let f : fs ≡ frames_in rs = ap (λ (y : Taken). y.1) (sym q) in
+    ap image (ap₂ in_order t f ∙ sorted start rs k) ∙ writes_back xs rs h d
 
 -- What is in every place holds of each element.
 bytes_all : (xs : List ℕ) → ((i : ℕ) → get_or xs i 0 < 256) → Bytes xs

@@ -5,7 +5,8 @@ use Rattle.theory.specs.declared.verdict.Unfit.{Unfit}
 use Rattle.theory.specs.Meaning.{Amounts, Rules, Meaning, Laws}
 use Rattle.theory.specs.Beside.{beside, both}
 use Rattle.theory.specs.Verdict.{busy, walk}
-use Rattle.theory.proofs.Verdicts.{accepted_ok, yes_exactly}
+use Rattle.theory.proofs.Verdicts.{accepted_ok}
+use Rattle.theory.proofs.Walk.{walk_is_look}
 use Rattle.loads.specs.Params.{TaskParams}
 use Rattle.loads.specs.Tasks.{tasks_meaning, tasks_amounts}
 use Rattle.loads.specs.Channels.{Channels, blank}
@@ -13,13 +14,13 @@ use Rattle.loads.specs.Train.{train_meaning}
 use Rattle.loads.proofs.Fewer.{none_filled}
 use Rattle.plan.specs.Ledger.{plan, refusal_of}
 use Rattle.plan.specs.Admissions.{InTurn, in_turn}
-use Rattle.plan.proofs.BusyTold.{nothing_told, busy_told}
+use Rattle.plan.proofs.BusyTold.{look_closes, nothing_told, busy_told}
 use Rattle.format.specs.declared.fault.RecordFault.{RecordFault}
 use Rattle.format.specs.declared.fault.PlanFault.{PlanFault}
 use Rattle.format.specs.declared.fault.PlanFault.TheVariants.{Record, Refused}
 use Rattle.format.specs.Records.{Rec}
 use Rattle.format.specs.Decode.{decode, tasks_in, frames_in}
-use Rattle.format.specs.Fills.{Filled, told_at, valueless, entered, admitted_to, KeptAgain}
+use Rattle.format.specs.Fills.{AdmittedTo, told_at, filled_by, task_offset, admitted_to, KeptAgain}
 use Rattle.image.specs.Verdict.{first_frame, busy_or_zero, over_plan, over_train, over_records, judged, YesMeans}
 
 -- The verdict of an image: the busy period, or the first fault.
@@ -50,22 +51,15 @@ blank_busy g = ap (λ (ps : List TaskParams). busy (beside (tasks_meaning ps) g)
 
 -- A yes closes at the busy period that it names.
 yes_closes : (m : Amounts) → Rules m → (w : ℕ) → Ok w ≡ walk m → busy m ≡ Some w
-yes_closes m l w e =
-    let a = accepted_ok m l w e in
-    let q : ◌≡◌ {A = Result ℕ Unfit} (Ok a.0.0) (Ok w) = sym (e ∙ (yes_exactly m l a.0.0 a.0.1).1 a.1) in
-    let v : a.0.0 ≡ w = cc in
-    a.0.1 ∙ ap {B = Option ℕ} Some v
+yes_closes m l w e = look_closes m w (sym (e ∙ walk_is_look m l))
 
--- What admitting tasks answers, a refused one told by its offset; where none is refused, nothing is told otherwise.
-abbrev pub ToldAt : Type 0
-ToldAt = Result (Option ℕ) PlanFault × Channels
-
-all_granted : (x : InTurn) (o : Option ℕ) (l : Channels) → ◌≡◌ {A = ToldAt} (Ok o, l) (told_at x) → ◌≡◌ {A = InTurn} (Ok o, l) x
-all_granted (Ok p, m) o l e =
-    let q : ◌≡◌ {A = Result (Option ℕ) PlanFault} (Ok o) (Ok p) = ap (λ (y : ToldAt). y.0) e in
+-- Where no task is refused, nothing is told by an offset.
+all_granted : (rs : List Rec) (x : InTurn) (o : Option ℕ) (l : Channels) → ◌≡◌ {A = AdmittedTo} (Ok o, l) (told_at rs x) → ◌≡◌ {A = InTurn} (Ok o, l) x
+all_granted rs (Ok p, m) o l e =
+    let q : ◌≡◌ {A = Result (Option ℕ) PlanFault} (Ok o) (Ok p) = ap (λ (y : AdmittedTo). y.0) e in
     let r : o ≡ p = cc in
-    λ i. (Ok (r i), ap (λ (y : ToldAt). y.1) e i)
-all_granted (Err p, m) o l e = let q : ◌≡◌ {A = Result (Option ℕ) PlanFault} (Ok o) (Err (Refused p.1 (37 * p.0))) = ap (λ (y : ToldAt). y.0) e in cc
+    λ i. (Ok (r i), ap (λ (y : AdmittedTo). y.1) e i)
+all_granted rs (Err p, m) o l e = let q : ◌≡◌ {A = Result (Option ℕ) PlanFault} (Ok o) (Err (Refused p.1 (task_offset 0 p.0 rs))) = ap (λ (y : AdmittedTo). y.0) e in cc
 
 module _ (xs : List ℕ) (rs : List Rec) (d : decode xs ≡ Ok rs) (lg : Laws (train_meaning (frames_in rs))) where
   -- The verdict on the train alone, as the judge has walked it.
@@ -79,12 +73,8 @@ module _ (xs : List ℕ) (rs : List Rec) (d : decode xs ≡ Ok rs) (lg : Laws (t
 
   -- The train is accepted, and the tasks are admitted over it.
   module _ (w : ℕ) (e : Ok w ≡ walk (train_meaning (frames_in rs)).amounts) where
-    -- What is answered, by what admitting the tasks answers.
-    entered_is : (y : ToldAt) → y ≡ admitted_to (train_meaning (frames_in rs)) rs blank → entered (train_meaning (frames_in rs)) rs blank ≡ (valueless y.0, y.1)
-    entered_is y a = ap (λ (y : ToldAt). let x : Filled = (valueless y.0, y.1) in x) (sym a)
-
-    pub task_refused : (f : PlanFault) (l : Channels) → ◌≡◌ {A = Result (Option ℕ) PlanFault × Channels} (Err f, l) (admitted_to (train_meaning (frames_in rs)) rs blank) → ◌≡◌ {A = Result ℕ PlanFault} (Err f) (judged xs)
-    task_refused f l a = sym (walked (Ok w) e ∙ ap (over_plan (train_meaning (frames_in rs))) (entered_is (Err f, l) a))
+    pub task_refused : (f : PlanFault) (l : Channels) → ◌≡◌ {A = AdmittedTo} (Err f, l) (admitted_to (train_meaning (frames_in rs)) rs blank) → ◌≡◌ {A = Result ℕ PlanFault} (Err f) (judged xs)
+    task_refused f l a = sym (walked (Ok w) e ∙ ap (over_plan (train_meaning (frames_in rs))) (ap filled_by (sym a)))
 
     closes : (o : Option ℕ) (l : Channels) → ◌≡◌ {A = InTurn} (Ok o, l) (in_turn (train_meaning (frames_in rs)) 0 None (tasks_in rs) blank) → busy (plan (train_meaning (frames_in rs)) l).amounts ≡ Some (unwrap_or o w)
     closes None l q =
@@ -92,12 +82,12 @@ module _ (xs : List ℕ) (rs : List Rec) (d : decode xs ≡ Ok rs) (lg : Laws (t
         ap (λ (m : Channels). busy (plan g m).amounts) (nothing_told g (tasks_in rs) blank l q) ∙ blank_busy g ∙ yes_closes g.amounts lg.rules w e
     closes (Some v) l q = busy_told (train_meaning (frames_in rs)) (tasks_in rs) blank l v q
 
-    pub all_admitted : (o : Option ℕ) (l : Channels) → ◌≡◌ {A = Result (Option ℕ) PlanFault × Channels} (Ok o, l) (admitted_to (train_meaning (frames_in rs)) rs blank) → KeptAgain (train_meaning (frames_in rs)) [] l
+    pub all_admitted : (o : Option ℕ) (l : Channels) → ◌≡◌ {A = AdmittedTo} (Ok o, l) (admitted_to (train_meaning (frames_in rs)) rs blank) → KeptAgain (train_meaning (frames_in rs)) [] l
         → ◌≡◌ {A = Result ℕ PlanFault} (Ok (unwrap_or o w)) (judged xs) × YesMeans xs (unwrap_or o w)
     all_admitted o l a k =
         let g = train_meaning (frames_in rs) in
-        let c = closes o l (all_granted (in_turn g 0 None (tasks_in rs) blank) o l a) in
-        let all = entered_is (Ok o, l) a in (
+        let c = closes o l (all_granted rs (in_turn g 0 None (tasks_in rs) blank) o l a) in
+        let all = ap filled_by (sym a) in (
           sym (walked (Ok w) e ∙ ap (over_plan g) all ∙ ap (λ (b : Option ℕ). let j : Judged = Ok (busy_or_zero b) in j) c),
           record { records = rs; read = d; ledger = l; admitted_all = all; closes = c; never_late = k.1.never_late (accepted_ok g.amounts lg.rules w e) },
         )

@@ -10,6 +10,7 @@ abbrev pub read_or_none : Result (List Rec) RecordFault → List Rec
 read_or_none (Ok rs) = rs
 read_or_none (Err e) = []
 
+-- The records of an image, and none where it is not read.
 abbrev pub records_in : List ℕ → List Rec
 records_in xs = read_or_none (decode xs)
 

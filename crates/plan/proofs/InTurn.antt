@@ -99,7 +99,7 @@ answers_within g n o (x ∷ xs) l = go (admitted g l x.channel x.content) (λ w.
     go (Err r) ih = (omega arith, omega arith)
     go (Ok w) ih = more (in_turn g (suc n) (Some w) xs (put_one l x)).0 (ih w)
 
-place_within : (g : Meaning) (n : ℕ) (o : Option ℕ) (xs : List Placed) (l : Ledger) (p : ℕ × Refusal) → (in_turn g n o xs l).0 ≡ Err p → (n ≤ p.0) × (p.0 < n + length xs)
+pub place_within : (g : Meaning) (n : ℕ) (o : Option ℕ) (xs : List Placed) (l : Ledger) (p : ℕ × Refusal) → (in_turn g n o xs l).0 ≡ Err p → (n ≤ p.0) × (p.0 < n + length xs)
 unfolding Within
 place_within g n o xs l p e = subst (λ (t : Result (Option ℕ) (ℕ × Refusal)). Within t n (length xs)) e (answers_within g n o xs l)
 

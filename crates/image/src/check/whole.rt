@@ -91,6 +91,7 @@ impl<'a> Checked<'a> {
         }
         let mut entries = [self.entry(0); 64];
         self.take_tasks(&mut entries);
+        // No `map_err`: its closure would not know that the place is one of the tasks.
         match plan.admit_all(&entries[..self.tasks]) {
             Ok(busy) => Ok(busy),
             Err((place, refusal)) => Err(PlanFault::Refused(refusal, TASK * place)),

@@ -84,6 +84,7 @@ impl Records {
         ensures { Added self.old (frame_piece bytes.now at) result self.new }
     {
         let (before, frame) = pass_frame(self.before, bytes, at)?;
+        // The train has room: the checks on the frame have looked, since 6 comes before 1 to 3.
         self.train
             .push(frame)
             .map_err(|e| RecordFault::Refused(e, at))?;

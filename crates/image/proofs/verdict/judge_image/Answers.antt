@@ -16,10 +16,10 @@ use Rattle.format.specs.declared.fault.PlanFault.{PlanFault}
 use Rattle.format.specs.declared.fault.PlanFault.TheVariants.{Refused}
 use Rattle.loads.specs.Channels.{Channels, blank}
 use Rattle.format.specs.Decode.{frames_in}
-use Rattle.format.specs.Fills.{admitted_to, KeptAgain}
+use Rattle.format.specs.Fills.{AdmittedTo, admitted_to, KeptAgain}
 use Rattle.image.specs.Verdict.{first_frame, YesMeans}
 use Rattle.image.specs.Whole.{records_of}
-use Rattle.image.proofs.Judging.{ToldAt, unread, train_refused, task_refused, all_admitted}
+use Rattle.image.proofs.Judging.{unread, train_refused, task_refused, all_admitted}
 use Rattle.image.proofs.verdict.judge_image.Goals as goal
 use Rattle.image.proofs.verdict.judge_image.Goals.{After-train-train, After-judge, In_ok-alone, After-make-plan}
 
@@ -58,8 +58,8 @@ over c = ap frames_of c.make-plan.ensures.guest ∙ c.train-train.ensures
 
 -- What admitting the tasks into the plan answers and leaves, by the train's frames and without the plan.
 told : (c : After-make-plan) (r : Result (Option ℕ) PlanFault) (l : Channels)
-    → ◌≡◌ {A = ToldAt} (r, l) (admitted_to (train_meaning (frames_of (guest c.make-plan.result))) (records_of c.in_ok-checked.checked) (ledger c.make-plan.result))
-    → ◌≡◌ {A = ToldAt} (r, l) (admitted_to (train_meaning (frames_in (records_of c.in_ok-checked.checked))) (records_of c.in_ok-checked.checked) blank)
+    → ◌≡◌ {A = AdmittedTo} (r, l) (admitted_to (train_meaning (frames_of (guest c.make-plan.result))) (records_of c.in_ok-checked.checked) (ledger c.make-plan.result))
+    → ◌≡◌ {A = AdmittedTo} (r, l) (admitted_to (train_meaning (frames_in (records_of c.in_ok-checked.checked))) (records_of c.in_ok-checked.checked) blank)
 told c r l e = e ∙ (λ i. admitted_to (train_meaning (over c i)) (records_of c.in_ok-checked.checked) (c.make-plan.ensures.channels i))
 
 kept : (c : After-make-plan) (l : Channels)

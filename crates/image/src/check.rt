@@ -17,4 +17,6 @@ pub struct Checked<'a> {
     ghost frames: { frames_of train ≡ frames_in (records_in image.now) },
 }
 
-pub mod whole;
+mod whole;
+
+pub use whole::check;

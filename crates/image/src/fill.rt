@@ -6,7 +6,7 @@ ghost use Rattle.format.specs.Decode.{decode};
 ghost use Rattle.format.specs.Statements.{WritesAgain};
 ghost use Rattle.format.specs.Fills.{filled, KeptAgain};
 
-use crate::check::whole::check;
+use crate::check::check;
 use format::fault::PlanFault;
 use plan::plan::Plan;
 use theory::load::Load;

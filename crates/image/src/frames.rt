@@ -3,7 +3,7 @@ ghost use Rattle.loads.specs.Train.{frames_of};
 ghost use Rattle.format.specs.Decode.{decode};
 ghost use Rattle.format.specs.Fills.{taken};
 
-use crate::check::whole::check;
+use crate::check::check;
 use format::fault::RecordFault;
 use loads::train::RampTrain;
 

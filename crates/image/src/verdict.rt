@@ -2,7 +2,7 @@ ghost use Rattle.std.specs.Prelude.{◌≡◌, ℕ, take, Ok};
 ghost use Rattle.image.specs.declared.outcome.Outcome.TheVariants.{Yes as yes};
 ghost use Rattle.image.specs.Verdict.{judged, told, code_of, YesMeans};
 
-use crate::check::whole::check;
+use crate::check::check;
 use crate::outcome::Outcome;
 use format::fault::PlanFault;
 use judge::walk::judge;

@@ -11,7 +11,7 @@ pub returns : goal.returns
 unfolding tasks_meaning tasks_amounts
 returns c =
     let slots = c.args.self.now.slots in
-    c.cut_row.ensures (λ t. total (λ x. task_due x t) (tasks_in slots)) (
+    c.cut_row.ensures.row (λ t. total (λ x. task_due x t) (tasks_in slots)) (
     c.row-answers.ensures (λ x. x.deadline) (λ x r m. search rules)
     ∙ (λ i. row (λ t. total (λ x. sym (due_grown x t) i) (slots_stand slots i)) c.args.from)
     )

@@ -10,4 +10,4 @@ pub returns : goal.returns
 unfolding tasks_meaning tasks_amounts
 returns c =
     let slots = c.args.self.now.slots in
-    c.cut_row.ensures (λ t. largest (λ x. task_held x t) (tasks_in slots)) (c.held_row-answers.ensures ∙ (λ i. row (λ t. largest (λ x. task_held x t) (slots_stand slots i)) c.args.from))
+    c.cut_row.ensures.row (λ t. largest (λ x. task_held x t) (tasks_in slots)) (c.held_row-answers.ensures ∙ (λ i. row (λ t. largest (λ x. task_held x t) (slots_stand slots i)) c.args.from))

@@ -17,7 +17,7 @@ pub returns : goal.returns
 unfolding tasks_meaning tasks_amounts
 returns c =
     let slots = c.args.self.now.slots in
-    c.cut_next_row.ensures (λ s. total (λ x. task_ready x s) (tasks_in slots)) (idle (tasks_in slots)) (
+    c.cut_next_row.ensures.row (λ s. total (λ x. task_ready x s) (tasks_in slots)) (idle (tasks_in slots)) (
     c.row-answers.ensures (λ x. 0) (λ x r m. search rules)
     ∙ (λ i. row (λ t. grown_all (λ x. 0) t (slots_stand slots i)) c.tick_before.result)
     ∙ (λ i. row (λ t. sym (ready_grown_all (tasks_in slots) (slots_ranged slots) t) i) (c.tick_before.ensures i))

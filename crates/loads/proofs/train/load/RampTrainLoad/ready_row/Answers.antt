@@ -10,7 +10,7 @@ use Rattle.loads.proofs.train.load.RampTrainLoad.ready_row.Goals as goal
 pub returns : goal.returns
 returns c =
     let fs = frames_of c.args.self.now in
-    c.cut_next_row.ensures (train_amounts fs).ready (ready_none fs) (
+    c.cut_next_row.ensures.row (train_amounts fs).ready (ready_none fs) (
     c.row_of-answers.ensures ∙ ap (λ g. row g c.tick_before.result) (fun_ext (λ s. ready_row fs (frames_ranged c.args.self.now) s))
     ∙ ap (row (λ s. (train_amounts fs).ready (s + 1))) c.tick_before.ensures
     )

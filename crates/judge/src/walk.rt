@@ -51,7 +51,7 @@ fn kept_in_row<L: Load>(load: &L, t: u64) -> u64
 }
 
 /// The verdict by the walk: from the last mark below the busy period downwards, until a claim exceeds its tick or no
-/// mark is left. Where single steps get on slowly, the walk passes rows of ticks of which no claim exceeds one.
+/// mark is left. Where single steps get on slowly, the walk passes rows of ticks that their claims do not exceed.
 pub fn judge<L: Load>(load: &L) -> Result<u64, Unfit>
     ensures { result ≡ walk (L.Load.meaning load.now).amounts }
 {

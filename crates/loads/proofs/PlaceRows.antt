@@ -1,4 +1,4 @@
--- Rows over places in which tasks can stand: what the tasks so far have grown to, and the tasks ahead, make the whole.
+-- Uncut rows over places in which tasks can stand: what the tasks so far have grown to, and the tasks ahead, make the whole.
 use Rattle.std.proofs.Common.{◌≡◌, refl, ℕ, ◌+◌, ◌-◌, ◌*◌, ◌/◌, ◌^◌, ◌<◌, ◌≤◌, min, List, [], ◌∷◌, map, length, get_or, Some, Option, option_map, ap, ap₂, ◌∙◌, ◌⊎◌, inl, inr, arith}
 use Rattle.std.specs.Borrow.{Bor}
 use Rattle.std.specs.List.{range_with_len}
@@ -6,7 +6,7 @@ use Rattle.std.proofs.Math.Nat.{add-div_right}
 use Rattle.std.proofs.lemmas.Bool.{cases_lt, le-leb, lt-leb}
 use Rattle.std.proofs.lemmas.List.FromFn.{fill_by_all, length-map-range_with_len, get_or-map-range_with_len}
 use Rattle.theory.specs.Jobs.{All}
-use Rattle.theory.specs.Rows.{uncut_row as row}
+use Rattle.theory.specs.Rows.{uncut_row}
 use Rattle.loads.specs.declared.task.Task.{Task}
 use Rattle.loads.specs.Params.{TaskParams, TaskRanges}
 use Rattle.loads.specs.Places.{params_behind}
@@ -56,10 +56,10 @@ module _ {P : Type 0} (held : P → Option TaskParams) (ps : List P) (i : ℕ) w
       let k' = ap (λ b. grown (params_behind x) b t) k in
       omega (arith, ap (grown_all f t) (one_ahead held ps i p h e (Some x) q))
 
--- A row whose places are those of f.
+-- An uncut row whose places are those of f.
 pub row_is : (f g : ℕ → ℕ) (w v : ℕ) (xs : List ℕ) → v ≡ min w 100000000 → xs ≡ map g (range_with_len 0 256)
-    → ((i : ℕ) → i < 256 → g i ≡ min (f (v + i)) (2 ^ 40)) → xs ≡ row f w
-unfolding row
+    → ((i : ℕ) → i < 256 → g i ≡ min (f (v + i)) (2 ^ 40)) → xs ≡ uncut_row f w
+unfolding uncut_row
 row_is f g w v xs e q h =
     fill_by_all (λ i. min (f (min w 100000000 + i)) (2 ^ 40)) xs 256 0
     (ap length q ∙ length-map-range_with_len g 0 256)

@@ -3,7 +3,7 @@ use Rattle.std.proofs.Common.{◌≡◌, ℕ, zero, suc, ◌+◌, ◌-◌, ◌*�
 use lib.ListN.{length-map}
 use Rattle.std.specs.List.{sum_by, range_with_len}
 use Rattle.std.proofs.lemmas.List.Sums.{sum_by-cons}
-use Rattle.theory.specs.Rows.{uncut_row as row}
+use Rattle.theory.specs.Rows.{uncut_row}
 use Rattle.loads.specs.declared.frame.Frame.{Frame}
 use Rattle.loads.specs.declared.train.rest.FrameRest.{FrameRest}
 use Rattle.loads.specs.declared.train.rows.Counted.{Counted}
@@ -46,11 +46,11 @@ circle_since key c w t k fs p h l =
     let g = cycle_sum (circle_from k fs) ∙ sum_from (λ (f : Frame). f.gap) k fs ∙ sym (cycle_sum fs) in
     omega (arith, counts_since key c w t 0 (circle_from k fs) p (omega arith) l, sum_from (λ (f : Frame). f.cost * ((w - key (frame_params f)) / c)) k fs)
 
--- And so a row of it, whose places are those of the rests.
+-- And so an uncut row of it, whose places are those of the rests.
 pub row_since : (key : FrameParams → ℕ) (c w b from : ℕ) (fs : List Frame) (ls : List FrameRest) (xs : List ℕ) → 0 < c → c ≡ cycle (map frame_params fs) → w ≡ min from 100000000
     → ls ≡ map (with_rest (λ f. since c w (key f))) fs → b ≡ sum_by (λ (f : Frame). f.cost * ((w - key (frame_params f)) / c)) fs
     → xs ≡ map (λ i. min (largest_of (λ k. b + counts c (w + i) 0 (circle_from k ls)) (length ls)) (2 ^ 40)) (range_with_len 0 256)
-    → xs ≡ row (λ t. largest_of (λ k. tally key (cycle (map frame_params fs)) t 0 (circle_from k (map frame_params fs))) (length (map frame_params fs))) from
+    → xs ≡ uncut_row (λ t. largest_of (λ k. tally key (cycle (map frame_params fs)) t 0 (circle_from k (map frame_params fs))) (length (map frame_params fs))) from
 row_since key c w b from fs ls xs p q m r s e =
     let n = ap length r ∙ length-map fs (with_rest (λ f. since c w (key f))) ∙ sym (length-map fs frame_params) in
     let most = λ (t : ℕ). largest_of (λ k. tally key (cycle (map frame_params fs)) t 0 (circle_from k (map frame_params fs))) in
@@ -70,8 +70,8 @@ soon_rests k c w [] h j d l = absurd (omega arith)
 soon_rests k c w (f ∷ fs) h zero d l = omega (arith, lag_most k f)
 soon_rests k c w (f ∷ fs) h (suc j) d l = soon_rests k c w fs h j d (omega arith)
 
--- Without frames a row has no work.
-pub row_none : (key : FrameParams → ℕ) (c from : ℕ) (fs : List FrameParams) → length fs ≡ 0 → replicate 256 0 ≡ row (λ t. largest_of (λ k. tally key c t 0 (circle_from k fs)) (length fs)) from
-unfolding largest_of row
+-- Without frames an uncut row has no work.
+pub row_none : (key : FrameParams → ℕ) (c from : ℕ) (fs : List FrameParams) → length fs ≡ 0 → replicate 256 0 ≡ uncut_row (λ t. largest_of (λ k. tally key c t 0 (circle_from k fs)) (length fs)) from
+unfolding largest_of uncut_row
 row_none key c from [] h = refl
 row_none key c from (f ∷ fs) h = absurd (omega arith)

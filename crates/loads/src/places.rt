@@ -1,7 +1,7 @@
 ghost use Rattle.std.specs.Prelude.{◌≡◌, ℕ, ◌^◌, min, Option, filter_map};
 ghost use Rattle.std.specs.Option.{option_map};
 ghost use Rattle.theory.specs.Meaning.{last_mark};
-ghost use Rattle.theory.specs.Rows.{uncut_row as row};
+ghost use Rattle.theory.specs.Rows.{uncut_row};
 ghost use Rattle.loads.specs.Params.{TaskParams};
 ghost use Rattle.loads.specs.Tasks.{total, largest, any, task_held, task_mark};
 ghost use Rattle.loads.specs.Places.{Gives, params_behind};
@@ -66,11 +66,15 @@ pub(crate) fn latest<P: Place, F: Fn(&Task) -> Option<u64>>(places: &[P], mark: 
     last
 }
 
-/// The row, from `from` on, of what the tasks of these places grow to together, cut at 2^40. A task grows by its cost at
-/// the tick that the closure gives of it and again after every period, each of these brought forward by its jitter.
-pub(crate) fn row<P: Place, F: Fn(&Task) -> u32>(places: &[P], from: u64, first: F) -> [u64; ROW]
+/// The uncut row, from `from` on, of what the tasks of these places grow to together. A task grows by its cost at the tick
+/// that the closure gives of it and again after every period, each of these brought forward by its jitter.
+pub(crate) fn uncut_row<P: Place, F: Fn(&Task) -> u32>(
+    places: &[P],
+    from: u64,
+    first: F,
+) -> [u64; ROW]
     requires { F.IsAlwaysCallable first }
-    ensures { (f : TaskParams → ℕ) → Gives F.Fn first f → result ≡ row (λ t. total (λ x. grown x (f x) t) (filter_map P.stands places.now)) from }
+    ensures { (f : TaskParams → ℕ) → Gives F.Fn first f → result ≡ uncut_row (λ t. total (λ x. grown x (f x) t) (filter_map P.stands places.now)) from }
 {
     let from = Ticks::upto(from);
     let mut steps = Steps::new(0);
@@ -82,9 +86,9 @@ pub(crate) fn row<P: Place, F: Fn(&Task) -> u32>(places: &[P], from: u64, first:
     steps.row()
 }
 
-/// The row, from `from` on, of the longest section that the tasks of these places can hold, cut at 2^40.
-pub(crate) fn held_row<P: Place>(places: &[P], from: u64) -> [u64; ROW]
-    ensures { result ≡ row (λ t. largest (λ x. task_held x t) (filter_map P.stands places.now)) from }
+/// The uncut row, from `from` on, of the longest section that the tasks of these places can hold.
+pub(crate) fn uncut_held_row<P: Place>(places: &[P], from: u64) -> [u64; ROW]
+    ensures { result ≡ uncut_row (λ t. largest (λ x. task_held x t) (filter_map P.stands places.now)) from }
 {
     let from = Ticks::upto(from);
     let mut tops = Tops::new();

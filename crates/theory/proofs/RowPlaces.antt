@@ -1,10 +1,11 @@
 -- The places of a row, and how it is written one after another.
-use Rattle.std.proofs.Common.{◌≡◌, ℕ, zero, suc, ◌+◌, ◌-◌, ◌^◌, ◌<◌, ◌≤◌, min, List, get_or, set, take, map, length, [], ◌∷◌, ◌++◌, ap, ap₂, sym, ◌∙◌, zero-add, arith}
+use Rattle.std.proofs.Common.{◌≡◌, ℕ, zero, suc, ◌+◌, ◌-◌, ◌^◌, ◌<◌, ◌≤◌, min, List, get_or, set, take, map, length, [], ◌∷◌, ◌++◌, ap, ap₂, sym, ◌∙◌, zero-add, length-take, arith}
 use Rattle.std.specs.List.{range_with_len}
-use Rattle.std.proofs.lemmas.List.{take_all, take_more_set}
+use Rattle.std.proofs.lemmas.List.{take_all, take_more_set, get_or-take}
+use Rattle.std.proofs.lemmas.Grind.{same_number_lists}
 use Rattle.std.proofs.lemmas.List.FromFn.{get_or-map-range_with_len, map-range_with_len_more, length-map-range_with_len, fill_by_all}
 use Rattle.theory.specs.Meaning.{answered}
-use Rattle.theory.specs.Rows.{row, uncut_row}
+use Rattle.theory.specs.Rows.{row, uncut_row, cut_places, moved_places}
 
 pub row_place : (f : ℕ → ℕ) (w i d : ℕ) → i < 256 → get_or (row f w) i d ≡ answered f (w + i)
 unfolding row
@@ -42,7 +43,7 @@ module _ (f : ℕ → ℕ) (w l : ℕ) (xs : List ℕ) (e : xs ≡ uncut_row f w
       let q : min w 100000000 + min j l ≡ min (w + j) 100000000 = omega arith in
       ap (λ ys. get_or ys (min j l) 0) e ∙ p ∙ ap (λ v. min (f v) (2 ^ 40)) q
 
-  pub uncut_length : length xs ≡ 256
+  uncut_length : length xs ≡ 256
   unfolding uncut_row
   uncut_length = ap length e ∙ length-map-range_with_len (λ i. min (f (min w 100000000 + i)) (2 ^ 40)) 0 256
 
@@ -78,3 +79,17 @@ moved_whole f xs ys z e h s m = fill_by_all (λ i. answered f (0 + i)) ys 256 0 
         let p : suc j ≡ j + 1 = omega arith in
         let q : 0 + j + 1 ≡ min (0 + suc j) 100000000 = omega arith in
         ap (λ i. get_or ys i 0) p ∙ m j (omega arith) ∙ next_place f 0 j xs e (omega arith) (omega arith) ∙ ap (λ u. min (f u) (2 ^ 40)) q
+
+pub cut_by_place : (w : ℕ) (xs ys : List ℕ) → length ys ≡ 256 → ((j : ℕ) → j < 256 → get_or ys j 0 ≡ get_or xs (min j (100000000 - min w 100000000)) 0) → ys ≡ cut_places w xs
+unfolding cut_places
+cut_by_place w xs ys h at = fill_by_all (λ i. get_or xs (min i (100000000 - min w 100000000)) 0) ys 256 0 h at
+
+pub moved_by_place : (xs ys : List ℕ) → length xs ≡ 256 → length ys ≡ 256 → get_or ys 0 0 ≡ 0
+    → ((j : ℕ) → j + 1 < 256 → get_or ys (j + 1) 0 ≡ get_or xs j 0) → ys ≡ moved_places xs
+moved_by_place xs ys h n s m = same_number_lists ys (0 ∷ take 255 xs) (omega (arith, length-take 255 xs)) (λ j k. at j (omega arith))
+  where
+    at : (j : ℕ) → j < 256 → get_or ys j 0 ≡ get_or (0 ∷ take 255 xs) j 0
+    at zero l = s
+    at (suc j) l =
+        let p : suc j ≡ j + 1 = omega arith in
+        ap (λ i. get_or ys i 0) p ∙ m j (omega arith) ∙ sym (get_or-take 255 xs j 0 (omega arith))

@@ -1,5 +1,5 @@
 ghost use Rattle.std.specs.Prelude.{◌≡◌, ℕ, ◌+◌, ◌-◌, min};
-ghost use Rattle.theory.specs.Rows.{row, uncut_row, Asks};
+ghost use Rattle.theory.specs.Rows.{row, uncut_row, cut_places, moved_places, cut_next_places, Asks};
 
 use crate::limits::LAST;
 
@@ -21,7 +21,8 @@ pub(crate) fn row_by<F: Fn(u64) -> u64>(from: u64, question: F) -> [u64; ROW]
 /// Makes a row of what was found as if 100,000,000 were a tick as any other: each place beyond it takes what stands
 /// there. In place, since a row is long to copy.
 pub fn cut_row(answers: &mut [u64; ROW], from: u64)
-    ensures { (f : ℕ → ℕ) → answers.old ≡ uncut_row f from → answers.new ≡ row f from }
+    ensures places { answers.new ≡ cut_places from answers.old }
+    ensures row { (f : ℕ → ℕ) → answers.old ≡ uncut_row f from → answers.new ≡ row f from }
 {
     let last = (LAST - from.min(LAST)).min(ROW as u64 - 1) as usize;
     for i in last + 1..ROW {
@@ -29,9 +30,10 @@ pub fn cut_row(answers: &mut [u64; ROW], from: u64)
     }
 }
 
-/// Moves a row on by one place, and puts nothing at the first.
+/// Moves a row on by one place, and puts 0 at the first.
 fn move_row(answers: &mut [u64; ROW])
-    ensures { (f : ℕ → ℕ) → f 0 ≡ 0 → answers.old ≡ uncut_row (λ n. f (n + 1)) 0 → answers.new ≡ row f 0 }
+    ensures places { answers.new ≡ moved_places answers.old }
+    ensures row { (f : ℕ → ℕ) → f 0 ≡ 0 → answers.old ≡ uncut_row (λ n. f (n + 1)) 0 → answers.new ≡ row f 0 }
 {
     let mut i = ROW - 1;
     while i > 0 {
@@ -41,7 +43,7 @@ fn move_row(answers: &mut [u64; ROW])
     answers[0] = 0;
 }
 
-/// One tick before `from`, where the row begins that `cut_next_row` takes.
+/// One tick before `from` (0 for 0), where the row begins that `cut_next_row` takes.
 pub fn tick_before(from: u64) -> u64
     ensures { result ≡ min from 100000000 - 1 }
 {
@@ -51,7 +53,8 @@ pub fn tick_before(from: u64) -> u64
 /// As `cut_row`, from an uncut row that begins one tick earlier and has at each tick what is to stand at the next one: so
 /// a load can find what is ready within t + 1 ticks by what is released up to tick t.
 pub fn cut_next_row(answers: &mut [u64; ROW], from: u64)
-    ensures { (f : ℕ → ℕ) → f 0 ≡ 0 → answers.old ≡ uncut_row (λ n. f (n + 1)) (min from 100000000 - 1) → answers.new ≡ row f from }
+    ensures places { answers.new ≡ cut_next_places from answers.old }
+    ensures row { (f : ℕ → ℕ) → f 0 ≡ 0 → answers.old ≡ uncut_row (λ n. f (n + 1)) (min from 100000000 - 1) → answers.new ≡ row f from }
 {
     if from == 0 {
         move_row(answers);

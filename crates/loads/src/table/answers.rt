@@ -2,7 +2,7 @@ ghost use Rattle.loads.specs.Channels.{table, channels, slot_params};
 ghost use Rattle.loads.specs.Ranged.{table_laws};
 
 use super::{Slot, Table};
-use crate::places::{Place, held_row, largest, latest, row, total};
+use crate::places::{Place, largest, latest, total, uncut_held_row, uncut_row};
 use crate::task::Task;
 use crate::ticks::Ticks;
 use theory::load::Load;
@@ -45,20 +45,20 @@ impl Load for Table<Slot> {
 
     /// Counted from the first arrival, jobs fall due at D, D + T, ..
     fn due_row(&self, from: u64) -> [u64; ROW] {
-        let mut answers = row(&self.slots, from, |task| task.deadline());
+        let mut answers = uncut_row(&self.slots, from, |task| task.deadline());
         cut_row(&mut answers, from);
         answers
     }
 
     fn held_row(&self, from: u64) -> [u64; ROW] {
-        let mut answers = held_row(&self.slots, from);
+        let mut answers = uncut_held_row(&self.slots, from);
         cut_row(&mut answers, from);
         answers
     }
 
     /// Counted from the first arrival, jobs are released at 0, T, .., and t + 1 ticks have what is released up to tick t.
     fn ready_row(&self, from: u64) -> [u64; ROW] {
-        let mut answers = row(&self.slots, tick_before(from), |_| 0);
+        let mut answers = uncut_row(&self.slots, tick_before(from), |_| 0);
         cut_next_row(&mut answers, from);
         answers
     }

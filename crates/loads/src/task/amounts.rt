@@ -76,7 +76,7 @@ impl Task {
         );
     }
 
-    /// Raises, from the end of the row that begins at `from`, each tick at which the section is held to it.
+    /// In a row taken from its end: raises to the section each tick at which it is held.
     pub(crate) fn hold(&self, from: Ticks, tops: &mut Tops)
         ensures { (i : ℕ) → i < 256 → topped tops.new.at (255 - i) ≡ max (topped tops.old.at (255 - i)) (task_held (task_params self.now) (from + i)) }
     {

@@ -49,8 +49,8 @@ impl Load for RampTrain {
         answers
     }
 
-    /// In divisions: a question goes over each frame of each circle, four of them in one. A row takes as long as some 40 for
-    /// each circle, whose frames are put into it and added up along it.
+    /// In divisions: a question goes over each frame of each circle, and four take as long as a division. A row takes as
+    /// long as some 40 for each circle, whose frames are put into it and added up along it.
     fn effort(&self) -> Effort {
         let frames = self.frames().len() as u64;
         Effort {

@@ -31,15 +31,15 @@ impl Counted {
 }
 
 impl RampTrain {
-    ghost use Rattle.theory.specs.Rows.{uncut_row as row};
+    ghost use Rattle.theory.specs.Rows.{uncut_row};
     ghost use Rattle.loads.specs.Train.{circle_from, largest_of};
     ghost use Rattle.loads.specs.TrainTally.{tally};
 
-    /// The largest work at each tick of the row that begins at `from`, over the frames that the circle can begin with.
+    /// The uncut row, from `from` on, of the largest work over the frames that the circle can begin with.
     /// In each whole round from its lag up to `from` a frame counts once, in whichever circle: that work is found here, by
     /// one division for each frame. The row begins with it, and takes each frame as if it counted that many rounds later.
     pub(super) fn row_of(&self, counted: Counted, from: u64) -> [u64; ROW]
-        ensures { result ≡ row (λ t. largest_of (λ k. tally (lag counted) (cycle (frames_of self.now)) t 0 (circle_from k (frames_of self.now))) (length (frames_of self.now))) from }
+        ensures { result ≡ uncut_row (λ t. largest_of (λ k. tally (lag counted) (cycle (frames_of self.now)) t 0 (circle_from k (frames_of self.now))) (length (frames_of self.now))) from }
     {
         let frames = self.frames();
         if frames.is_empty() {

@@ -1,7 +1,7 @@
 -- Up to 100,000,000 the row is the uncut one, and each turn writes one more place beyond.
-use Rattle.std.proofs.Common.{◌≡◌, ◌<◌, ◌≢◌, min, get_or, set, length, refl, ap, ◌∙◌, inl, inr, subst, arith, length-set, get_or-set_same, get_or-set_other}
+use Rattle.std.proofs.Common.{◌≡◌, ◌-◌, ◌<◌, ◌≢◌, min, get_or, set, length, refl, ap, ◌∙◌, inl, inr, subst, arith, length-set, get_or-set_same, get_or-set_other}
 use Rattle.std.proofs.lemmas.Bool.{cases_lt}
-use Rattle.theory.proofs.RowPlaces.{cut_whole, uncut_length}
+use Rattle.theory.proofs.RowPlaces.{cut_by_place, cut_whole}
 use Rattle.theory.proofs.rows.cut_row.Goals as goal
 
 pub loop-i-init : goal.loop-i-init
@@ -29,5 +29,11 @@ loop-i-preserved c =
       ];
     }
 
-pub returns : goal.returns
-returns c = λ f e. cut_whole f c.args.from c.min-last.result c.args.answers.now e (omega arith) c.loop-i.answers c.loop-i.invariant.places (λ j h. c.loop-i.invariant.cut (uncut_length f c.args.from c.min-last.result c.args.answers.now e (omega arith)) j (omega arith))
+pub returns-clause-places : goal.returns-clause-places
+returns-clause-places c =
+    let l = c.min-last.result in
+    cut_by_place c.args.from c.args.answers.now c.loop-i.answers (c.loop-i.invariant.places ∙ c.told-answers)
+    (λ j h. c.loop-i.invariant.cut c.told-answers j (omega arith) ∙ ap (λ k. get_or c.args.answers.now k 0) (let e : min j l ≡ min j (100000000 - min c.args.from 100000000) = omega arith in e))
+
+pub returns-clause-row : goal.returns-clause-row
+returns-clause-row c = λ f e. cut_whole f c.args.from c.min-last.result c.args.answers.now e (omega arith) c.loop-i.answers c.loop-i.invariant.places (λ j h. c.loop-i.invariant.cut c.told-answers j (omega arith))

@@ -1,7 +1,7 @@
 -- Each turn moves one more place on, from the end of the row.
 use Rattle.std.proofs.Common.{◌≡◌, ◌+◌, ◌-◌, ◌<◌, ◌≢◌, get_or, set, length, refl, ap, ◌∙◌, inl, inr, arith, length-set, get_or-set_same, get_or-set_other}
 use Rattle.std.proofs.lemmas.Bool.{cases_lt}
-use Rattle.theory.proofs.RowPlaces.{moved_whole, uncut_length}
+use Rattle.theory.proofs.RowPlaces.{moved_by_place, moved_whole}
 use Rattle.theory.proofs.rows.move_row.Goals as goal
 
 pub loop-i-init : goal.loop-i-init
@@ -33,12 +33,20 @@ loop-i-preserved c =
       ];
     }
 
-pub returns : goal.returns
-returns c = λ f z e.
+pub returns-clause-places : goal.returns-clause-places
+returns-clause-places c =
     let answers = c.loop-i.answers in
-    let whole : length c.args.answers.now ≡ 256 = uncut_length (λ n. f (n + 1)) 0 255 c.args.answers.now e (omega arith) in
-    let places : length answers ≡ 256 = c.loop-i.invariant.places ∙ whole in
+    let places : length answers ≡ 256 = c.loop-i.invariant.places ∙ c.told-answers in
+    moved_by_place c.args.answers.now (set answers 0 0) c.told-answers
+    (length-set answers 0 0 ∙ places)
+    (get_or-set_same answers 0 0 0 (omega arith))
+    (λ j h. let n : j + 1 ≢ 0 = omega arith in get_or-set_other answers 0 (j + 1) 0 0 n ∙ c.loop-i.invariant.moved c.told-answers j (omega arith) h)
+
+pub returns-clause-row : goal.returns-clause-row
+returns-clause-row c = λ f z e.
+    let answers = c.loop-i.answers in
+    let places : length answers ≡ 256 = c.loop-i.invariant.places ∙ c.told-answers in
     moved_whole f c.args.answers.now (set answers 0 0) z e
     (length-set answers 0 0 ∙ places)
     (get_or-set_same answers 0 0 0 (omega arith))
-    (λ j h. let n : j + 1 ≢ 0 = omega arith in get_or-set_other answers 0 (j + 1) 0 0 n ∙ c.loop-i.invariant.moved whole j (omega arith) h)
+    (λ j h. let n : j + 1 ≢ 0 = omega arith in get_or-set_other answers 0 (j + 1) 0 0 n ∙ c.loop-i.invariant.moved c.told-answers j (omega arith) h)

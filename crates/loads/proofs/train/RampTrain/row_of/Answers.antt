@@ -4,7 +4,7 @@ use lib.ListN.{length-map}
 use Rattle.std.specs.List.{sum_by}
 use Rattle.std.proofs.lemmas.Bool.{eqb-true}
 use Rattle.std.proofs.lemmas.Grind.{common_steps}
-use Rattle.theory.specs.Rows.{uncut_row as row}
+use Rattle.theory.specs.Rows.{uncut_row}
 use Rattle.loads.specs.declared.frame.Frame.{Frame}
 use Rattle.loads.specs.Params.{FrameParams}
 use Rattle.loads.specs.Making.{frame_params}
@@ -63,4 +63,4 @@ returns c =
     let ls = written_all (with_rest (λ f. since round w (key f))) fs c.loop-i.rests c.loop-i.i i c.loop-i.invariant.rests in
     let b = c.loop-i.invariant.added ∙ ap (sum_by (λ (f : Frame). f.cost * ((w - key (frame_params f)) / round))) (take_all c.loop-i.i fs (omega arith)) in
     row_since key round w c.loop-i.base c.args.from fs (take (length fs) c.loop-i.rests) c.most_row.result (grind (arith, common_steps)) (c.round-round.ensures.same ∙ ap cycle (sym same)) (c.count-from.ensures ∙ c.upto.ensures) ls b c.most_row.ensures
-    ∙ ap (λ (ps : List FrameParams). row (λ t. largest_of (λ k. tally key (cycle ps) t 0 (circle_from k ps)) (length ps)) c.args.from) same
+    ∙ ap (λ (ps : List FrameParams). uncut_row (λ t. largest_of (λ k. tally key (cycle ps) t 0 (circle_from k ps)) (length ps)) c.args.from) same

@@ -6,8 +6,8 @@ use Rattle.loads.specs.Tasks.{largest, task_held}
 use Rattle.loads.specs.Steps.{topped}
 use Rattle.loads.proofs.PlaceLoops.{skip, largest_turn, largest_end, after}
 use Rattle.loads.proofs.PlaceRows.{row_is}
-use Rattle.loads.proofs.places.held_row.Goals as goal
-use Rattle.loads.proofs.places.held_row.Goals.{in-Some, in_default}
+use Rattle.loads.proofs.places.uncut_held_row.Goals as goal
+use Rattle.loads.proofs.places.uncut_held_row.Goals.{in-Some, in_default}
 
 pub loop-place-init : goal.loop-place-init
 loop-place-init g c = λ i h. omega (arith, c.new-tops.ensures (255 - i) (omega arith))

@@ -3,7 +3,7 @@ use Rattle.loads.specs.Params.{TaskParams}
 use Rattle.loads.specs.Places.{Gives}
 use Rattle.loads.specs.Steps.{reached}
 use Rattle.loads.proofs.PlaceRows.{grown_all}
-use Rattle.loads.proofs.places.row.Given as goal
+use Rattle.loads.proofs.places.uncut_row.Given as goal
 
 -- At each tick of the row, what it has grown to and what the tasks ahead add are the whole.
 abbrev pub invariant-loop-place : goal.invariant-loop-place

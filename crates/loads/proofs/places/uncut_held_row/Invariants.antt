@@ -1,7 +1,7 @@
 use Rattle.std.proofs.Common.{◌≡◌, ℕ, ◌+◌, ◌-◌, ◌<◌, max, filter_map, drop}
 use Rattle.loads.specs.Tasks.{largest, task_held}
 use Rattle.loads.specs.Steps.{topped}
-use Rattle.loads.proofs.places.held_row.Given as goal
+use Rattle.loads.proofs.places.uncut_held_row.Given as goal
 
 -- At each tick of the row, the larger of what is found and of what the tasks ahead hold is the whole.
 abbrev pub invariant-loop-place : goal.invariant-loop-place

@@ -3,8 +3,8 @@ use Rattle.loads.specs.declared.steps.Steps.{Steps}
 use Rattle.loads.specs.Steps.{reached}
 use Rattle.loads.proofs.PlaceLoops.{skip}
 use Rattle.loads.proofs.PlaceRows.{grown_all, row_turn, row_end, row_is}
-use Rattle.loads.proofs.places.row.Goals as goal
-use Rattle.loads.proofs.places.row.Goals.{in-Some, in_default}
+use Rattle.loads.proofs.places.uncut_row.Goals as goal
+use Rattle.loads.proofs.places.uncut_row.Goals.{in-Some, in_default}
 
 pub loop-place-init : goal.loop-place-init
 loop-place-init g c = λ f k i h. omega (arith, c.new-steps.ensures i h)

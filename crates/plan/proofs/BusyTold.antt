@@ -18,7 +18,7 @@ over_closes : (b : Option ℕ) (seek : ℕ → Option (ℕ × ℕ)) (w : ℕ) �
 over_closes None seek w e = cc
 over_closes (Some v) seek w e = found_closes v w (seek v) e
 
-look_closes : (m : Amounts) (w : ℕ) → look m ≡ Ok w → busy m ≡ Some w
+pub look_closes : (m : Amounts) (w : ℕ) → look m ≡ Ok w → busy m ≡ Some w
 unfolding look
 look_closes m w e = over_closes (busy m) _ w e
 

@@ -1,6 +1,7 @@
 #![tactic(auto, unfolding(theory::specs::Beside::beside, theory::specs::Beside::both))]
 
-ghost use Rattle.std.specs.Prelude.{◌≡◌, ℕ, ◌+◌, max};
+ghost use Rattle.std.specs.Prelude.{◌≡◌, ℕ, ◌+◌, ◌^◌, min};
+ghost use Rattle.theory.specs.Meaning.{answered};
 ghost use Rattle.theory.specs.Rows.{row};
 ghost use Rattle.theory.specs.Beside.{beside};
 ghost use Rattle.theory.proofs.BesideLaws.{beside_laws};
@@ -17,27 +18,25 @@ pub struct Beside<A, B> {
     pub second: B,
 }
 
-/// Two rows added up, place by place, each sum cut at 2^40.
-fn row_sum(a: &[u64; ROW], b: &[u64; ROW]) -> [u64; ROW]
-    ensures { (f g : ℕ → ℕ) (w : ℕ) → a.now ≡ row f w → b.now ≡ row g w → result ≡ row (λ t. f t + g t) w }
+/// Two amounts added up, the sum cut at 2^40.
+fn cut_sum(a: u64, b: u64) -> u64
+    ensures { result ≡ min (a + b) (2 ^ 40) }
 {
-    let mut sums = [0; ROW];
-    for (i, amount) in a.iter().enumerate() {
-        // By index: what is written through `iter_mut` a proof does not know afterwards.
-        sums[i] = amount.saturating_add(b[i]).min(CUT);
-    }
-    sums
+    a.saturating_add(b).min(CUT)
 }
 
-/// The larger of two rows, place by place.
-fn row_most(a: &[u64; ROW], b: &[u64; ROW]) -> [u64; ROW]
-    ensures { (f g : ℕ → ℕ) (w : ℕ) → a.now ≡ row f w → b.now ≡ row g w → result ≡ row (λ t. max (f t) (g t)) w }
+/// Two rows joined place by place: the row of what the closure makes of the two answers at each tick.
+fn join_rows<F: Fn(u64, u64) -> u64>(a: &[u64; ROW], b: &[u64; ROW], join: F) -> [u64; ROW]
+    requires { F.IsAlwaysCallable join }
+    ensures { (f g h : ℕ → ℕ) (w : ℕ) → ((t r : ℕ) → F.post join (answered f t) (answered g t) r → r ≡ answered h t)
+        → a.now ≡ row f w → b.now ≡ row g w → result ≡ row h w }
 {
-    let mut most = [0; ROW];
+    let mut joined = [0; ROW];
     for (i, amount) in a.iter().enumerate() {
-        most[i] = (*amount).max(b[i]);
+        // By index: what is written through `iter_mut` a proof does not know afterwards.
+        joined[i] = join(*amount, b[i]);
     }
-    most
+    joined
 }
 
 impl<A: Load, B: Load> Load for Beside<A, B> {
@@ -46,7 +45,7 @@ impl<A: Load, B: Load> Load for Beside<A, B> {
     ghost lawful = { λ x. beside_laws (A.Load.meaning x.first) (B.Load.meaning x.second) (A.Load.lawful x.first) (B.Load.lawful x.second) };
 
     fn due(&self, t: u64) -> u64 {
-        (self.first.due(t) + self.second.due(t)).min(CUT)
+        cut_sum(self.first.due(t), self.second.due(t))
     }
 
     fn held(&self, t: u64) -> u64 {
@@ -54,7 +53,7 @@ impl<A: Load, B: Load> Load for Beside<A, B> {
     }
 
     fn ready(&self, s: u64) -> u64 {
-        (self.first.ready(s) + self.second.ready(s)).min(CUT)
+        cut_sum(self.first.ready(s), self.second.ready(s))
     }
 
     fn last_mark(&self, t: u64) -> Option<u64> {
@@ -62,15 +61,27 @@ impl<A: Load, B: Load> Load for Beside<A, B> {
     }
 
     fn due_row(&self, from: u64) -> [u64; ROW] {
-        row_sum(&self.first.due_row(from), &self.second.due_row(from))
+        join_rows(
+            &self.first.due_row(from),
+            &self.second.due_row(from),
+            cut_sum,
+        )
     }
 
     fn held_row(&self, from: u64) -> [u64; ROW] {
-        row_most(&self.first.held_row(from), &self.second.held_row(from))
+        join_rows(
+            &self.first.held_row(from),
+            &self.second.held_row(from),
+            |x, y| x.max(y),
+        )
     }
 
     fn ready_row(&self, from: u64) -> [u64; ROW] {
-        row_sum(&self.first.ready_row(from), &self.second.ready_row(from))
+        join_rows(
+            &self.first.ready_row(from),
+            &self.second.ready_row(from),
+            cut_sum,
+        )
     }
 
     fn effort(&self) -> Effort {

@@ -73,8 +73,8 @@ impl<G: Load> Plan<G> {
     /// the busy period of the plan with all of them, in ticks (none where there are no entries), or the place of the first
     /// that is refused, counted from 0, and why. The entries before it stay in the plan.
     ///
-    /// They are put in and judged all at once. Where that refuses they are taken out, and so are tried again, by halves;
-    /// entries that are accepted together are accepted one after another too.
+    /// All are put in and judged at once. Where that refuses they are taken out again, and the same is done with the first
+    /// half of what is left, and so on: entries that are accepted together are accepted one after another too.
     pub fn admit_all(&mut self, entries: &[(u8, Entry)]) -> Result<Option<u64>, (usize, Refusal)>
         ensures says { (result, ledger self.new) ≡ in_turn (G.Load.meaning (guest self.old)) 0 None (map placed entries.now) (ledger self.old) }
         ensures calls { ledger self.new ≡ after (G.Load.meaning (guest self.old)) (ledger self.old) (tried_calls result entries.now) }

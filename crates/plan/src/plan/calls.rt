@@ -94,7 +94,8 @@ impl<G: Load> Plan<G> {
         ensures guest { guest self.new ≡ guest self.old }
     {
         self.read(channel)?;
-        self.loads.first.put(channel, None)
+        self.loads.first.clear(channel);
+        Ok(())
     }
 
     /// Label and task of a filled channel.

@@ -1,4 +1,5 @@
 -- The rows of both loads, added up.
+use Rattle.std.proofs.Common.{◌+◌, arith}
 use Rattle.theory.specs.Beside.{beside, both}
 use Rattle.plan.proofs.beside.BesideLoad.due_row.Goals as goal
 
@@ -7,4 +8,4 @@ unfolding beside both
 returns g c =
     let a = (g.A.Load.meaning c.args.self.now.first).amounts in
     let b = (g.B.Load.meaning c.args.self.now.second).amounts in
-    c.row_sum.ensures a.due b.due c.args.from c.due_row.ensures c.due_row-2.ensures
+    c.join_rows.ensures a.due b.due (λ t. a.due t + b.due t) c.args.from (λ t r e. omega arith) c.due_row.ensures c.due_row-2.ensures

@@ -1,4 +1,5 @@
 -- The larger of the rows of both loads.
+use Rattle.std.proofs.Common.{max, rules}
 use Rattle.theory.specs.Beside.{beside, both}
 use Rattle.plan.proofs.beside.BesideLoad.held_row.Goals as goal
 
@@ -7,4 +8,4 @@ unfolding beside both
 returns g c =
     let a = (g.A.Load.meaning c.args.self.now.first).amounts in
     let b = (g.B.Load.meaning c.args.self.now.second).amounts in
-    c.row_most.ensures a.held b.held c.args.from c.held_row.ensures c.held_row-2.ensures
+    c.join_rows.ensures a.held b.held (λ t. max (a.held t) (b.held t)) c.args.from (λ t r e. search rules) c.held_row.ensures c.held_row-2.ensures

@@ -1,9 +1,7 @@
 -- One pass over the parts of an image checks its records and collects its tasks and its frames.
-use Rattle.std.proofs.Common.{◌≡◌, ℕ, suc, List, [], ◌∷◌, ◌++◌, length, Some, None, Ok, Err, Result, sym, refl, ap, ◌∙◌, append_assoc, arith, length-append, ◌<◌, zero, ◌+◌, ◌*◌}
+use Rattle.std.proofs.Common.{◌≡◌, ℕ, suc, List, [], ◌∷◌, ◌++◌, length, Some, Ok, Err, Result, sym, refl, ap, ◌∙◌, append_assoc, arith, length-append, ◌<◌, zero, ◌+◌, ◌*◌}
 use Rattle.std.proofs.lemmas.List.{append-nil}
-use Rattle.theory.specs.Meaning.{Meaning}
 use Rattle.loads.specs.Params.{FrameParams}
-use Rattle.loads.specs.Channels.{Channels}
 use Rattle.plan.specs.Admissions.{Placed, InTurn}
 use Rattle.format.specs.declared.before.Before.{Before}
 use Rattle.format.specs.declared.fault.RecordFault.{RecordFault}

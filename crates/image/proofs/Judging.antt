@@ -1,5 +1,5 @@
 -- From the answers of the calls that the verdict makes to the verdict of an image.
-use Rattle.std.proofs.Common.{◌≡◌, ℕ, ◌*◌, max, List, [], Some, None, Ok, Err, Option, Result, sym, ap, ◌∙◌, zero-add, arith}
+use Rattle.std.proofs.Common.{◌≡◌, ℕ, max, List, [], Some, None, Ok, Err, Option, Result, sym, ap, ◌∙◌, zero-add, arith}
 use Rattle.std.specs.Option.{unwrap_or}
 use Rattle.theory.specs.declared.verdict.Unfit.{Unfit}
 use Rattle.theory.specs.Meaning.{Amounts, Rules, Meaning, Laws}

@@ -168,8 +168,7 @@ fn a_plan_as_guest(rt: HostRuntime) -> Result<(), Fail> {
     Ok(())
 }
 
-/// Several tasks admitted by one call: none, three, up to one that is late, up to one with a bad label, and over a
-/// guest that is late by itself.
+/// Several tasks admitted by one call: none, three, up to one that is late, and up to one with a bad label.
 #[test]
 fn several(rt: HostRuntime) -> Result<(), Fail> {
     let entries = [
@@ -201,14 +200,20 @@ fn several(rt: HostRuntime) -> Result<(), Fail> {
     assert_eq!(rt; up_to_label.admit_all(&labels), Err((1, Refusal::BadLabel)));
     assert_eq!(rt; up_to_label.read(5)?.task.cost(), 1);
     both_say(&rt, &up_to_label, Ok(1));
+    Ok(())
+}
 
-    // The guest needs 5 ticks within 4, which is late whatever stands beside it.
-    let mut late = Plan::make(table_of(&[(5, 10, 4, 0, 0)])?);
-    assert_eq!(rt; late.admit_all(&[]), Ok(None));
-    assert_eq!(rt;
-        late.admit_all(&entries[..3]),
-        Err((0, Refusal::Late((4, 5))))
-    );
-    assert_eq!(rt; late.read(5).err(), Some(Refusal::ChannelEmpty));
+/// Several tasks over a guest that needs 5 ticks within 4, which is late whatever stands beside it.
+#[test]
+fn several_over_a_late_guest(rt: HostRuntime) -> Result<(), Fail> {
+    let entries = [
+        (5, entry(LABEL, (1, 10, 6, 0, 0))?),
+        (3, entry(LABEL, (2, 10, 6, 0, 0))?),
+        (9, entry(LABEL, (3, 10, 6, 0, 0))?),
+    ];
+    let mut plan = Plan::make(table_of(&[(5, 10, 4, 0, 0)])?);
+    assert_eq!(rt; plan.admit_all(&[]), Ok(None));
+    assert_eq!(rt; plan.admit_all(&entries), Err((0, Refusal::Late((4, 5)))));
+    assert_eq!(rt; plan.read(5).err(), Some(Refusal::ChannelEmpty));
     Ok(())
 }

@@ -12,8 +12,9 @@ loop-i-preserved g c =
       written = λ f k h w joins p q.
           let x : get_or c.args.a.now i 0 ≡ answered f (w + i) = ap (λ xs. get_or xs i 0) p ∙ row_place f w i 0 c.loop-i-test.true in
           let y : get_or c.args.b.now i 0 ≡ answered k (w + i) = ap (λ xs. get_or xs i 0) q ∙ row_place k w i 0 c.loop-i-test.true in
+          let z : goal.F-post g c.args.join (get_or c.args.a.now i 0) (get_or c.args.b.now i 0) c.join.result = c.join.ensures in
           written_more h w c.loop-i.joined i c.join.result (omega (arith, c.loop-i.invariant.places))
-          (joins (w + i) c.join.result (rw (x, y) at c.join.ensures)) (c.loop-i.invariant.written f k h w joins p q);
+          (joins (w + i) c.join.result (rw (x, y) at z)) (c.loop-i.invariant.written f k h w joins p q);
     }
 
 pub returns : goal.returns

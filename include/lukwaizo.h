@@ -49,8 +49,8 @@ enum {
  * A length of 0 is an image of no bytes, and the answer is 13.
  *
  * The call changes nothing that the caller can see. It takes no memory from the heap, keeps nothing
- * from one call to the next and calls nothing outside the library but memcpy, memmove and memset, so
- * several threads may call it at once. It always returns. How long it takes depends on the plan, not on
+ * from one call to the next and calls nothing outside the library but memcpy and memset, so several
+ * threads may call it at once. It always returns. How long it takes depends on the plan, not on
  * the length of its image alone: docs/DECISIONS.md says what bounds it, docs/MEASURED.md what was measured.
  */
 uint32_t lukwaizo_check(const uint8_t *image, size_t length);

@@ -35,12 +35,14 @@ fn move_row(answers: &mut [u64; ROW])
     ensures places { answers.new ≡ moved_places answers.old }
     ensures row { (f : ℕ → ℕ) → f 0 ≡ 0 → answers.old ≡ uncut_row (λ n. f (n + 1)) 0 → answers.new ≡ row f 0 }
 {
-    let mut i = ROW - 1;
-    while i > 0 {
-        answers[i] = answers[i - 1];
-        i -= 1;
+    // Forwards, carrying along what stood one place before: a loop from the end would be compiled to a call of `memmove`,
+    // which the archive for C would then need from outside.
+    let mut before = 0;
+    for i in 0..ROW {
+        let here = answers[i];
+        answers[i] = before;
+        before = here;
     }
-    answers[0] = 0;
 }
 
 /// One tick before `from` (0 for 0), where the row begins that `cut_next_row` takes.

@@ -1,14 +1,12 @@
-use Rattle.std.proofs.Common.{◌≡◌, ℕ, ◌+◌, ◌<◌, ◌≤◌, get_or, length}
+use Rattle.std.proofs.Common.{◌≡◌, ℕ, ◌<◌, ◌≤◌, ◌∷◌, get_or, length}
 use Rattle.theory.proofs.rows.move_row.Given as goal
 
--- Up to i the row is as it was, and beyond i each place has what stood one place before.
+-- Below i each place has what stands there in the row behind a 0, from i on the row is as it was, and what is to stand at
+-- i is carried.
 abbrev pub invariant-loop-i : goal.invariant-loop-i
 invariant-loop-i l = record {
   places : length l.answers ≡ length l.fn.answers;
-  within : l.i < 256;
-  still : (j : ℕ) → j ≤ l.i → get_or l.answers j 0 ≡ get_or l.fn.answers j 0;
-  moved : length l.fn.answers ≡ 256 → (j : ℕ) → l.i ≤ j → j + 1 < 256 → get_or l.answers (j + 1) 0 ≡ get_or l.fn.answers j 0;
+  carried : l.before ≡ get_or (0 ∷ l.fn.answers) l.i 0;
+  still : (j : ℕ) → l.i ≤ j → get_or l.answers j 0 ≡ get_or l.fn.answers j 0;
+  moved : length l.fn.answers ≡ 256 → (j : ℕ) → j < l.i → get_or l.answers j 0 ≡ get_or (0 ∷ l.fn.answers) j 0;
 }
-
-abbrev pub decreases-loop-i : goal.decreases-loop-i
-decreases-loop-i l = l.i

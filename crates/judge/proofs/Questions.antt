@@ -31,7 +31,7 @@ upto k t o h e =
     let q : o ≡ last_mark k (suc t) = e ∙ ap (last_mark k) n in
     subst (λ x. Last k (suc t) x) (sym q) (last_says k (suc t))
 
-mark_found : (k : ℕ → Bool) (t s : ℕ) → t < 100000000 → Some s ≡ last_mark k (min (t + 1) 100000000) → eqb s t ≡ k t
+pub mark_found : (k : ℕ → Bool) (t s : ℕ) → t < 100000000 → Some s ≡ last_mark k (min (t + 1) 100000000) → eqb s t ≡ k t
 mark_found k t s h e =
     let says : Last k (suc t) (Some s) = upto k t (Some s) h e in
     elim (cases_eq s t) [
@@ -39,7 +39,7 @@ mark_found k t s h e =
       | inr y ↦ (ne_eqb s t y ∙ sym (says.2 t (omega arith) (omega arith)))
     ]
 
-mark_absent : (k : ℕ → Bool) (t : ℕ) → t < 100000000 → None ≡ last_mark k (min (t + 1) 100000000) → false ≡ k t
+pub mark_absent : (k : ℕ → Bool) (t : ℕ) → t < 100000000 → None ≡ last_mark k (min (t + 1) 100000000) → false ≡ k t
 mark_absent k t h e = let says : Last k (suc t) None = upto k t None h e in sym (says t (omega arith))
 
 -- A tick is a mark exactly where the last mark below the next tick is that tick.

@@ -54,7 +54,7 @@ back_early c t o d r h l p k =
     let e : t - 1 - (o + d) ≡ (t - 1 - d) / c * c + (r - o) = omega arith in
     sym (ap (λ x. x % c) e ∙ mul-add-mod_self_right ((t - 1 - d) / c) c (r - o) ∙ mod-eq_of_lt (omega arith))
 
-back_late : (c t o d r : ℕ) → o < c → o + d < t → r ≡ (t - 1 - d) % c → r < o → r + c - o ≡ (t - 1 - (o + d)) % c
+pub back_late : (c t o d r : ℕ) → o < c → o + d < t → r ≡ (t - 1 - d) % c → r < o → r + c - o ≡ (t - 1 - (o + d)) % c
 back_late c t o d r h l p k =
     let s = mod-add-div' (t - 1 - d) c in
     let e : t - 1 - (o + d) + c ≡ (t - 1 - d) / c * c + (r + c - o) = omega arith in

@@ -74,6 +74,10 @@ kept_more g h before ks l e =
       never_late = λ a. subst (λ (x : Ledger). NeverLate (plan g x)) (sym s) ((promise g h).never_late a (before ++ ks));
     }
 
+-- A plan just made: no call yet.
+pub kept_none : (g : Meaning) → Laws g → (l : Ledger) → l ≡ blank → Kept g [] [] [] l
+kept_none g h l e = kept_more g h [] [] l e
+
 -- The same from channels that earlier calls have left.
 pub kept_calls : (g : Meaning) → Laws g → (start : Ledger) (ks : List Call) (l : Ledger) → l ≡ after g start ks → (before : List Call) → start ≡ after g blank before → Kept g before ks (answers_to g start ks) l
 kept_calls g h start ks l s before e =

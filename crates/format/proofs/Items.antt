@@ -1,5 +1,5 @@
 -- The parts that an image gives one after another, and the records in them.
-use Rattle.std.proofs.Common.{◌≡◌, ℕ, zero, suc, ◌+◌, ◌<◌, ◌≤◌, List, [], ◌∷◌, length, drop, Some, None, Ok, Err, Option, Result, sym, refl, ap, ◌∙◌, arith, length-drop}
+use Rattle.std.proofs.Common.{◌≡◌, ℕ, zero, suc, ◌+◌, ◌<◌, ◌≤◌, List, [], ◌∷◌, length, drop, Some, None, Ok, Err, Option, Result, sym, refl, ap, ◌∙◌, subst, arith, length-drop, length-take}
 use Rattle.std.proofs.lemmas.List.{drop-drop}
 use Rattle.format.specs.declared.before.Before.{Before}
 use Rattle.format.specs.declared.fault.ImageFault.{ImageFault}
@@ -8,7 +8,7 @@ use Rattle.format.specs.declared.fault.RecordFault.{RecordFault}
 use Rattle.format.specs.declared.fault.RecordFault.TheVariants.{Image}
 use Rattle.format.specs.Records.{Rec, size, start, after, fault}
 use Rattle.format.specs.Decode.{part, ended, with_rest, passed, records, decode, Piece, rec_in}
-use Rattle.format.specs.Parts.{offset, behind, pieces, pieces_from}
+use Rattle.format.specs.Parts.{offset, Whole, behind, pieces, pieces_from}
 use Rattle.format.proofs.Front.{Read, AllRead, clash, next, part_cases}
 
 -- An item of the iterator over the parts, by plain bytes.
@@ -69,6 +69,30 @@ items_from xs at =
     go (Ok None) = refl
     go (Ok (Some p)) = ap (λ (ys : List ℕ). Ok p ∷ pieces (length xs) (at + size (rec_in p)) ys) (drop-drop (size (rec_in p)) at xs)
 
+-- Each part that an image gives is whole.
+abbrev IfWhole : Option Piece → Type 0
+IfWhole None = Unit {0}
+IfWhole (Some p) = Whole p
+
+part_whole : (at : ℕ) (xs : List ℕ) (o : Option Piece) → part at xs ≡ Ok o → IfWhole o
+part_whole at xs o e = part_cases at xs IfWhole (λ l m. simp length-take (omega arith)) (λ l m. simp length-take (omega arith)) (λ l m. tt) o e
+
+pub whole_given : (xs : List ℕ) (at : Option ℕ) (p : Piece) (is : List Item) → pieces_from xs at ≡ Ok p ∷ is → Whole p
+whole_given xs None p is e = absurd (omega (arith, ap length e))
+whole_given xs (Some at) p is e = go (part at (drop at xs)) refl (sym (items_from xs at) ∙ e)
+  where
+    no_part : {A : Type 0} (f : ImageFault) (js : List Item) → ◌≡◌ {A = List Item} (Err f ∷ js) (Ok p ∷ is) → A
+    no_part f js q = let z : ◌≡◌ {A = ℕ} 0 1 = cc in absurd (omega arith)
+
+    at_last : (i : ℕ) (ys : List ℕ) → behind i ys ≡ Ok p ∷ is → Whole p
+    at_last i [] q = absurd (omega (arith, ap length q))
+    at_last i (y ∷ ys) q = no_part (Trailing i) [] q
+
+    go : (x : Read) → part at (drop at xs) ≡ x → onward xs at x ≡ Ok p ∷ is → Whole p
+    go (Err f) q k = no_part f [] k
+    go (Ok None) q k = at_last (at + 2) (drop 2 (drop at xs)) k
+    go (Ok (Some r)) q k = let s : r ≡ p = cc in subst Whole s (part_whole at (drop at xs) (Some r) q)
+
 -- Nothing behind the end mark, or something.
 pub nothing_behind : (at : ℕ) (xs : List ℕ) → length xs ≤ at + 2 → behind (at + 2) (drop 2 (drop at xs)) ≡ []
 nothing_behind at xs h = go (drop 2 (drop at xs)) (simp length-drop (omega arith))
@@ -93,7 +117,7 @@ checks b [] = Ok []
 checks b (Err e ∷ is) = Err (Image e)
 checks b (Ok p ∷ is) = by_check (rec_in p) (λ c. checks c is) (passed b (offset p) (rec_in p))
 
-records_checks : (n : ℕ) (b : Before) (at : ℕ) (xs : List ℕ) → records n b at xs ≡ checks b (pieces n at xs)
+pub records_checks : (n : ℕ) (b : Before) (at : ℕ) (xs : List ℕ) → records n b at xs ≡ checks b (pieces n at xs)
 unfolding records pieces
 records_checks zero b at xs = refl
 records_checks (suc n) b at xs = go (part at xs) refl (records_checks n)

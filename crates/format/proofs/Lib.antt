@@ -11,3 +11,4 @@ pub mod ReadsAgain
 pub mod WritesAgain
 pub mod Places
 pub mod WriteTurns
+pub mod Prefixes

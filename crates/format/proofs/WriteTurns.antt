@@ -21,7 +21,7 @@ use Rattle.format.specs.Encode.{placed_in, encode, tasks}
 use Rattle.format.specs.Writes.{tasks_bytes, frames_bytes, written, placed}
 
 -- A table has 64 channels.
-channels_length : (t : Table Slot) → length (channels t) ≡ 64
+pub channels_length : (t : Table Slot) → length (channels t) ≡ 64
 channels_length t = length-map t.slots slot_content ∙ t.full
 
 -- What a reading says of the channel.
@@ -29,14 +29,14 @@ module _ (l : Channels) (c : ℕ) (h : c ≤ 63) where
   reading_is : reading l c ≡ by_content (get_or l c None) (λ k. Ok k) (Err ChannelEmpty)
   reading_is = let b : ltb 63 c ≡ false = le-ltb 63 c h in rw b
 
-  read_some : (k : Content) → Ok k ≡ reading l c → get_or l c None ≡ Some k
+  pub read_some : (k : Content) → Ok k ≡ reading l c → get_or l c None ≡ Some k
   read_some k e = go (get_or l c None) (e ∙ reading_is)
     where
       go : (o : Option Content) → ◌≡◌ {A = Result Content Refusal} (Ok k) (by_content o (λ k. Ok k) (Err ChannelEmpty)) → o ≡ Some k
       go (Some x) p = let q : k ≡ x = cc in ap {B = Option Content} Some (sym q)
       go None p = cc
 
-  read_none : (e : Refusal) → Err e ≡ reading l c → get_or l c None ≡ None
+  pub read_none : (e : Refusal) → Err e ≡ reading l c → get_or l c None ≡ None
   read_none e p = go (get_or l c None) (p ∙ reading_is)
     where
       go : (o : Option Content) → ◌≡◌ {A = Result Content Refusal} (Err e) (by_content o (λ k. Ok k) (Err ChannelEmpty)) → o ≡ None

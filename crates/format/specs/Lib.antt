@@ -5,6 +5,7 @@ pub mod Decode
 pub mod Encode
 pub mod Parts
 pub mod Fills
+pub mod Prefixes
 pub mod Writes
 pub mod Statements
 pub mod Examples

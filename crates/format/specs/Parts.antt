@@ -1,5 +1,5 @@
 -- What the reading calls give, by plain bytes and numbers.
-use Rattle.std.specs.Prelude.{ℕ, zero, suc, ◌+◌, List, [], ◌∷◌, length, drop, Some, None, Ok, Err, Option, Result}
+use Rattle.std.specs.Prelude.{◌≡◌, ℕ, zero, suc, ◌+◌, List, [], ◌∷◌, length, drop, Some, None, Ok, Err, Option, Result}
 use Rattle.format.specs.declared.fault.ImageFault.{ImageFault}
 use Rattle.format.specs.declared.fault.ImageFault.TheVariants.{Cut, Trailing}
 use Rattle.format.specs.declared.part.Part.{Part}
@@ -22,6 +22,11 @@ shown (Err e) = Err e
 abbrev pub offset : Piece → ℕ
 offset (task_piece xs at) = at
 offset (frame_piece xs at) = at
+
+-- The part has all the bytes of its kind of record.
+abbrev pub Whole : Piece → Type 0
+Whole (task_piece xs at) = length xs ≡ 37
+Whole (frame_piece xs at) = length xs ≡ 14
 
 -- After the end mark no parts follow; 14 where a byte does.
 abbrev pub behind : ℕ → List ℕ → List (Result Piece ImageFault)

@@ -7,8 +7,8 @@ pub const FRAME: usize = 14;
 /// One record of the image: its bytes, its mark with them, borrowed from the image, and their offset.
 #[derive(Clone, Copy)]
 pub enum Part<'a> {
-    /// The bytes of a task.
-    Task(&'a [u8; TASK], usize),
-    /// The bytes of a frame.
-    Frame(&'a [u8; FRAME], usize),
+    /// The 37 bytes of a task.
+    Task(&'a [u8], usize),
+    /// The 14 bytes of a frame.
+    Frame(&'a [u8], usize),
 }

@@ -50,7 +50,7 @@ blank_busy : (g : Meaning) → busy (plan g blank).amounts ≡ busy g.amounts
 blank_busy g = ap (λ (ps : List TaskParams). busy (beside (tasks_meaning ps) g).amounts) (none_filled 64) ∙ ap busy (none_beside g)
 
 -- A yes closes at the busy period that it names.
-yes_closes : (m : Amounts) → Rules m → (w : ℕ) → Ok w ≡ walk m → busy m ≡ Some w
+pub yes_closes : (m : Amounts) → Rules m → (w : ℕ) → Ok w ≡ walk m → busy m ≡ Some w
 yes_closes m l w e = look_closes m w (sym (e ∙ walk_is_look m l))
 
 -- Where no task is refused, nothing is told by an offset.

@@ -1,4 +1,5 @@
 pub mod Adding
 pub mod InOrder
 pub mod Judging
+pub mod Together
 pub mod Writing

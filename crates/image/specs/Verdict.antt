@@ -60,26 +60,32 @@ pub record YesMeans (xs : List ℕ) (w : ℕ) : Type 0 where
   pub closes : busy (plan (train_meaning (frames_in records)) ledger).amounts ≡ Some w
   pub never_late : NeverLate (plan (train_meaning (frames_in records)) ledger)
 
--- What is answered: yes with the busy period, or the refusal and the offset.
+-- The outcome of a refusal at an offset: late where there is a pair of mark and claim, else the refusal's number.
+abbrev pub refused_at : Refusal → ℕ → Option (ℕ × ℕ) → Outcome
+refused_at r at (Some late) = outcome.Late late at
+refused_at r at None = outcome.Refused (number r) at
+
+abbrev pub by_fault : Refusal × ℕ → Outcome
+by_fault (r, at) = refused_at r at (late_pair r)
+
+-- What is answered: yes with the busy period, late with mark and claim and the offset, or the refusal's number and
+-- the offset.
 abbrev pub told : Result ℕ PlanFault → Outcome
 told (Ok w) = outcome.Yes w
-told (Err e) = outcome.Refused (plan_fault e).0 (plan_fault e).1
+told (Err e) = by_fault (plan_fault e)
 
--- The number that the host gets: 0 for yes, else the refusal's number, which is 11 for late.
+-- The number that the host gets: 0 for yes, 11 for late, else the refusal's number.
 abbrev pub code_of : Outcome → ℕ
 code_of (outcome.Yes w) = 0
-code_of (outcome.Refused r at) = number r
+code_of (outcome.Late late at) = 11
+code_of (outcome.Refused n at) = n
 
 -- A field of the line after a space, and what comes after it.
 abbrev pub spaced : ℕ → List ℕ → List ℕ
 spaced n rest = codes " " ++ (decimal n ++ rest)
 
--- The line of a refusal: mark and claim where it has them, else its number.
-abbrev pub refused_line : Refusal → Option (ℕ × ℕ) → List ℕ → List ℕ
-refused_line r (Some late) rest = codes "late" ++ spaced late.0 (spaced late.1 rest)
-refused_line r None rest = codes "refused" ++ spaced (number r) rest
-
 -- The line of an outcome, byte by byte.
 abbrev pub line : Outcome → List ℕ
 line (outcome.Yes w) = codes "yes" ++ spaced w (codes "\n")
-line (outcome.Refused r at) = refused_line r (late_pair r) (spaced at (codes "\n"))
+line (outcome.Late late at) = codes "late" ++ spaced late.0 (spaced late.1 (spaced at (codes "\n")))
+line (outcome.Refused n at) = codes "refused" ++ spaced n (spaced at (codes "\n"))

@@ -2,26 +2,28 @@ ghost use Rattle.std.specs.Prelude.{◌≡◌, Some};
 ghost use Rattle.image.specs.Verdict.{told, code_of, line};
 
 use format::fault::PlanFault;
-use loads::refusal::Refusal;
 use std::fmt;
 
-/// What is answered on an image: a type of its own and no `Result`, so that it has a `Display`.
+/// What is answered on an image.
 #[derive(Clone, Copy, PartialEq, Eq, Debug)]
 pub enum Outcome {
     /// The plan is accepted: its busy period.
     Yes(u64),
-    /// The image or a record of it is refused: why, and the offset.
-    Refused(Refusal, usize),
+    /// The plan is late: mark and claim, and the offset of the record refused.
+    Late((u64, u64), usize),
+    /// Any other refusal: its number, and the offset.
+    Refused(u32, usize),
 }
 
 impl Outcome {
-    /// The number that a host in C gets: 0 for yes, else the refusal's number, which is 11 for late.
+    /// The number that a host in C gets: 0 for yes, 11 for late, else the refusal's number.
     pub fn code(self) -> u32
         ensures { result ≡ code_of self }
     {
         match self {
             Outcome::Yes(_) => 0,
-            Outcome::Refused(refusal, _) => u32::from(refusal),
+            Outcome::Late(_, _) => 11,
+            Outcome::Refused(number, _) => number,
         }
     }
 }
@@ -35,7 +37,10 @@ impl From<Result<u64, PlanFault>> for Outcome {
             Ok(busy) => Outcome::Yes(busy),
             Err(fault) => {
                 let (refusal, at) = fault.into();
-                Outcome::Refused(refusal, at)
+                match refusal.late() {
+                    Some(late) => Outcome::Late(late, at),
+                    None => Outcome::Refused(refusal.into(), at),
+                }
             }
         }
     }
@@ -48,13 +53,8 @@ impl fmt::Display for Outcome {
     fn fmt<W: fmt::Write>(&self, f: &mut fmt::Formatter<W>) -> fmt::Result {
         match self {
             Outcome::Yes(busy) => writeln!(f, "yes {busy}"),
-            Outcome::Refused(Refusal::Late((mark, claim)), offset) => {
-                writeln!(f, "late {mark} {claim} {offset}")
-            }
-            Outcome::Refused(refusal, offset) => {
-                let number = u32::from(*refusal);
-                writeln!(f, "refused {number} {offset}")
-            }
+            Outcome::Late((mark, claim), offset) => writeln!(f, "late {mark} {claim} {offset}"),
+            Outcome::Refused(number, offset) => writeln!(f, "refused {number} {offset}"),
         }
     }
 }

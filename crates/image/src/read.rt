@@ -17,8 +17,8 @@ pub fn next_part<'a>(image: &'a [u8], at: usize) -> Result<Option<Part<'a>>, Ima
     let cut = ImageFault::Cut(at);
     let rest = image.get(at..).ok_or(cut)?;
     match rest {
-        [b'T', b'K', ..] => Ok(Some(Part::Task(rest.first_chunk().ok_or(cut)?, at))),
-        [b'R', b'F', ..] => Ok(Some(Part::Frame(rest.first_chunk().ok_or(cut)?, at))),
+        [b'T', b'K', ..] => Ok(Some(Part::Task(rest.get(..TASK).ok_or(cut)?, at))),
+        [b'R', b'F', ..] => Ok(Some(Part::Frame(rest.get(..FRAME).ok_or(cut)?, at))),
         [b'E', b'N', ..] => Ok(None),
         [_, _, ..] => Err(ImageFault::UnknownMark(at)),
         _ => Err(cut),

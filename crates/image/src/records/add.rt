@@ -3,12 +3,12 @@ ghost use Rattle.loads.specs.Making.{frame_params};
 ghost use Rattle.loads.specs.Train.{frames_of};
 ghost use Rattle.format.specs.Records.{task_rec, frame_rec, task_in, frame_in, start};
 ghost use Rattle.format.specs.Decode.{passed, task_piece, frame_piece};
-ghost use Rattle.format.specs.Parts.{piece};
+ghost use Rattle.format.specs.Parts.{piece, Whole};
 ghost use Rattle.image.specs.Checked.{by_before};
 ghost use Rattle.image.specs.Added.{Added};
 
 use super::Records;
-use crate::read::made_frame;
+use crate::read::{chunk, made_frame};
 use crate::read_task::made_task;
 use format::before::Before;
 use format::fault::RecordFault;
@@ -92,13 +92,14 @@ impl Records {
         Ok(())
     }
 
-    /// Adds what a record holds, if it passes its checks.
+    /// Adds what a record holds, if it passes its checks. The parts that an image gives are whole.
     pub(crate) fn add(&mut self, part: Part) -> Result<(), RecordFault>
+        requires { Whole (piece part) }
         ensures { Added self.old (piece part.entry) result self.new }
     {
         match part {
-            Part::Task(bytes, at) => self.add_task(bytes, at),
-            Part::Frame(bytes, at) => self.add_frame(bytes, at),
+            Part::Task(bytes, at) => self.add_task(chunk(bytes, 0), at),
+            Part::Frame(bytes, at) => self.add_frame(chunk(bytes, 0), at),
         }
     }
 }

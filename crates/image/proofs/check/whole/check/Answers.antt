@@ -5,11 +5,12 @@ use Rattle.loads.specs.Train.{frames_of}
 use Rattle.format.specs.declared.before.Before.{Before}
 use Rattle.format.specs.Records.{start}
 use Rattle.format.specs.Parts.{piece, seen}
-use Rattle.format.proofs.Items.{Item}
+use Rattle.format.proofs.Items.{Item, whole_given}
 use Rattle.format.proofs.Reading.{Reading, reading_start}
 use Rattle.image.specs.Parts.{rest}
 use Rattle.image.proofs.Adding.{SoFar, record_read, whole}
 use Rattle.image.proofs.check.whole.check.Goals as goal
+use Rattle.image.proofs.check.whole.check.Goals.{In_ok-part}
 
 pub loop-part-init : goal.loop-part-init
 loop-part-init c =
@@ -25,12 +26,20 @@ loop-part-init c =
           (subst (λ (is : List Item). Reading xs start [] [] is) all (reading_start xs)));
     }
 
+-- The part that a turn gives is the first of those that were left.
+given : (c : In_ok-part) → rest c.loop-part.part-iterator ≡ Ok (piece c.in_ok-part.field-0) ∷ rest c.next.new.self
+given c = c.in-Some.ensures.steps ∙ ap (λ x. seen x ∷ rest c.next.new.self) c.in_ok-part.was
+
+pub add-requires : goal.add-requires
+add-requires c =
+    let s = c.loop-part.part-iterator in
+    whole_given s.image.now s.at (piece c.in_ok-part.field-0) (rest c.next.new.self) (given (goal.at.add-requires c).In_ok-part)
+
 pub loop-part-preserved : goal.loop-part-preserved
 loop-part-preserved c =
     let a = c.loop-part.records in
-    let e : rest c.loop-part.part-iterator ≡ Ok (piece c.in_ok-part.field-0) ∷ rest c.next.new.self = c.in-Some.ensures.steps ∙ ap (λ x. seen x ∷ rest c.next.new.self) c.in_ok-part.was in
     record_read c.args.image.now a c.add.new.self (piece c.in_ok-part.field-0) (rest c.next.new.self)
-    (subst (λ (is : List Item). SoFar c.args.image.now a.before a.tasks (frames_of a.train) is) e c.loop-part.invariant)
+    (subst (λ (is : List Item). SoFar c.args.image.now a.before a.tasks (frames_of a.train) is) (given (goal.at.loop-part-preserved c).In_ok-part) c.loop-part.invariant)
     c.in_ok-add.ensures
 
 pub invariant_of-result : goal.invariant_of-result

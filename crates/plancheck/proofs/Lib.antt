@@ -1,1 +1,4 @@
+mod Pieces
+mod Held
+mod Cuts
 mod Known

@@ -2,14 +2,15 @@
 
 #![tactic(auto)]
 
-use crate::reading::judge_first;
+use crate::input::reading::judge_reader;
 use std::io;
 
-mod reading;
+mod input;
+mod source;
 #[cfg(test)]
 mod tests;
 
 fn main(rt: HostRuntime) -> io::Result<()> {
-    let outcome = judge_first(&mut rt.stdin())?;
+    let outcome = judge_reader(&mut rt.stdin())?;
     rt.print(outcome)
 }

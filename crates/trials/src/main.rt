@@ -6,8 +6,10 @@
 #![tactic(auto)]
 
 mod back;
+mod line;
 
 use crate::back::comes_back;
+use crate::line::bytes_in;
 use image::outcome::Outcome;
 use image::verdict::verdict;
 use std::io;
@@ -31,12 +33,9 @@ fn report(rt: &HostRuntime, image: &[u8]) -> io::Result<()> {
 fn main(rt: HostRuntime) -> io::Result<()> {
     let heap = rt.alloc();
     for line in BufReader::new(heap, rt.stdin())?.lines(heap) {
-        let line = line?;
-        // `hex::decode` would tell by an error of its own, beside those of a bad line, that memory has run out.
-        let mut image = vec![in heap; 0u8; line.len() / 2]?;
-        match hex::decode_to_slice(line.as_str(), image.as_mut_slice()) {
-            Ok(()) => report(&rt, image.as_slice())?,
-            Err(_) => println!(rt; "bad line")?,
+        match bytes_in(heap, line?.as_bytes())? {
+            Some(image) => report(&rt, image.as_slice())?,
+            None => println!(rt; "bad line")?,
         }
     }
     Ok(())

@@ -1,7 +1,7 @@
 -- Parts written over a slice one after another are the joined bytes written at once.
 use Rattle.std.proofs.Common.{◌≡◌, ℕ, ◌+◌, ◌/◌, ◌%◌, ◌<◌, ◌≤◌, List, [], ◌∷◌, ◌++◌, length, take, drop, sym, refl, ap, ◌∙◌, div-one, arith, length-append}
 use lib.Seq.{paste}
-use Rattle.std.proofs.lemmas.List.Edits.{paste_all, paste-paste}
+use Rattle.std.proofs.lemmas.List.Edits.{paste_all, paste-paste, paste_none}
 use Rattle.format.specs.Bytes.{bytes}
 use Rattle.format.specs.Writes.{placed}
 
@@ -16,6 +16,10 @@ placed_more out at k xs ys e h =
     ∙ sym (is_paste (paste out at xs k) (at + k) ys (length ys) refl)
     ∙ paste-paste out at xs ys k (length ys) e refl h
     ∙ is_paste out at (xs ++ ys) (k + length ys) (ap (λ (n : ℕ). n + length ys) e ∙ sym (length-append xs ys))
+
+-- Writing no bytes changes nothing.
+pub placed_none : (out : List ℕ) (at : ℕ) → out ≡ placed out at []
+placed_none out at = paste_none out at [] ∙ is_paste out at [] 0 refl
 
 -- What `to_be_bytes` gives.
 pub be_4 : (n : ℕ) → n / 16777216 % 256 ∷ n / 65536 % 256 ∷ n / 256 % 256 ∷ n % 256 ∷ [] ≡ bytes 4 n

@@ -53,6 +53,13 @@ frames_more (g ∷ fs) zero f h e = append-nil (frame_bytes (frame_params g)) �
 frames_more (g ∷ fs) (suc i) f h e =
     ap (λ (ys : List ℕ). frame_bytes (frame_params g) ++ ys) (frames_more fs i f (omega arith) e) ∙ sym (append_assoc (frame_bytes (frame_params g)) (of_frames (take i fs)) (frame_bytes (frame_params f)))
 
+-- Past the last frame, or the last channel, nothing is left to write.
+pub frames_end : (fs : List Frame) (i : ℕ) (pre all : List ℕ) → length fs ≤ i → pre ++ of_frames (drop i fs) ≡ all → pre ≡ all
+frames_end fs i pre all h e = sym (append-nil pre) ∙ ap (λ (ys : List ℕ). pre ++ ys) (sym (at_drop_all of_frames fs i h)) ∙ e
+
+pub tasks_end : (l : Channels) (i : ℕ) (pre all : List ℕ) → length l ≤ i → pre ++ tasks_bytes i (drop i l) ≡ all → pre ≡ all
+tasks_end l i pre all h e = sym (append-nil pre) ∙ ap (λ (ys : List ℕ). pre ++ ys) (sym (at_drop_all (tasks_bytes i) l i h)) ∙ e
+
 -- The bytes of what stands in a channel.
 abbrev pub entry_bytes : ℕ → Option Content → List ℕ
 entry_bytes c None = []

@@ -1,4 +1,5 @@
 pub mod Ceil
+pub mod Sizes
 pub mod PlaceLoops
 pub mod PlaceRows
 pub mod Fewer

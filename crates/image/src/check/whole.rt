@@ -1,9 +1,9 @@
-ghost use Rattle.std.specs.Prelude.{◌≡◌, ◌<◌, ◌*◌, List, map, take, drop, slice_index_or};
+ghost use Rattle.std.specs.Prelude.{◌≡◌, ◌<◌, ◌≤◌, ◌*◌, List, None, map, take, drop, slice_index_or};
 ghost use Rattle.loads.specs.Channels.{blank};
 ghost use Rattle.loads.specs.Train.{frames_of};
 ghost use Rattle.plan.specs.declared.call.Call.{Call as a_call};
 ghost use Rattle.plan.specs.Ledger.{ledger, after, guest};
-ghost use Rattle.plan.specs.Admissions.{placed};
+ghost use Rattle.plan.specs.Admissions.{placed, in_turn};
 ghost use Rattle.format.specs.Decode.{decode, tasks_in, frames_in};
 ghost use Rattle.format.specs.Fills.{admitted_to, KeptAgain};
 ghost use Rattle.image.specs.Verdict.{first_frame};
@@ -17,6 +17,7 @@ use crate::records::Records;
 use format::fault::{PlanFault, RecordFault};
 use format::part::TASK;
 use loads::entry::Entry;
+use loads::refusal::Refusal;
 use loads::train::RampTrain;
 use plan::plan::Plan;
 use theory::load::Load;
@@ -77,6 +78,34 @@ impl<'a> Checked<'a> {
         }
     }
 
+    /// Admits its tasks into a plan by a list of them; there is at least one.
+    fn admit_several<G: Load>(&self, plan: &mut Plan<G>) -> Result<Option<u64>, (usize, Refusal)>
+        requires { 1 ≤ self.now.tasks }
+        ensures says { (result, ledger plan.new) ≡ in_turn (G.Load.meaning (guest plan.old)) 0 None (tasks_in (records_of self.now)) (ledger plan.old) }
+        ensures guest { guest plan.new ≡ guest plan.old }
+        ensures kept { (before : List a_call) → ledger plan.old ≡ after (G.Load.meaning (guest plan.old)) blank before
+            → KeptAgain (G.Load.meaning (guest plan.old)) before (ledger plan.new) }
+    {
+        let mut entries = [self.entry(0); 64];
+        self.take_tasks(&mut entries);
+        plan.admit_all(&entries[..self.tasks])
+    }
+
+    /// Admits its tasks into a plan: the answer tells a refused one by its place among them. One alone goes as a list of
+    /// one, since to fill 64 places would take a good part of the time of such an image.
+    fn admit_tasks<G: Load>(&self, plan: &mut Plan<G>) -> Result<Option<u64>, (usize, Refusal)>
+        ensures says { (result, ledger plan.new) ≡ in_turn (G.Load.meaning (guest plan.old)) 0 None (tasks_in (records_of self.now)) (ledger plan.old) }
+        ensures guest { guest plan.new ≡ guest plan.old }
+        ensures kept { (before : List a_call) → ledger plan.old ≡ after (G.Load.meaning (guest plan.old)) blank before
+            → KeptAgain (G.Load.meaning (guest plan.old)) before (ledger plan.new) }
+    {
+        match self.tasks {
+            0 => Ok(None),
+            1 => plan.admit_all(&[self.entry(0)]),
+            _ => self.admit_several(plan),
+        }
+    }
+
     /// Admits its tasks into a plan, one after another, up to the first that is refused: the busy period of the plan with
     /// all of them, in ticks (none where there are no tasks), or why and where one is refused. The plan keeps the tasks of
     /// earlier records. That the guest stays is a fact about the call.
@@ -86,13 +115,8 @@ impl<'a> Checked<'a> {
         ensures kept { (before : List a_call) → ledger plan.old ≡ after (G.Load.meaning (guest plan.old)) blank before
             → KeptAgain (G.Load.meaning (guest plan.old)) before (ledger plan.new) }
     {
-        if self.tasks == 0 {
-            return Ok(None);
-        }
-        let mut entries = [self.entry(0); 64];
-        self.take_tasks(&mut entries);
         // No `map_err`: its closure would not know that the place is one of the tasks.
-        match plan.admit_all(&entries[..self.tasks]) {
+        match self.admit_tasks(plan) {
             Ok(busy) => Ok(busy),
             Err((place, refusal)) => Err(PlanFault::Refused(refusal, TASK * place)),
         }

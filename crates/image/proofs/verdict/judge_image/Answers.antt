@@ -9,19 +9,18 @@ use Rattle.loads.specs.Params.{FrameParams}
 use Rattle.loads.specs.Train.{frames_of, train_meaning}
 use Rattle.loads.specs.TrainRanges.{frames_ranged}
 use Rattle.loads.specs.TrainLaws.{train_laws}
-use Rattle.plan.specs.declared.call.Call.{Call}
-use Rattle.plan.specs.Ledger.{ledger, guest, refusal_of, after}
+use Rattle.plan.specs.Ledger.{refusal_of}
 use Rattle.plan.proofs.MapErr.{ok_kept, err_told}
 use Rattle.format.specs.declared.fault.PlanFault.{PlanFault}
 use Rattle.format.specs.declared.fault.PlanFault.TheVariants.{Refused}
-use Rattle.loads.specs.Channels.{Channels, blank}
+use Rattle.loads.specs.Channels.{blank}
 use Rattle.format.specs.Decode.{frames_in}
 use Rattle.format.specs.Fills.{AdmittedTo, admitted_to, KeptAgain}
 use Rattle.image.specs.Verdict.{first_frame, YesMeans}
 use Rattle.image.specs.Whole.{records_of}
 use Rattle.image.proofs.Judging.{unread, train_refused, task_refused, all_admitted}
 use Rattle.image.proofs.verdict.judge_image.Goals as goal
-use Rattle.image.proofs.verdict.judge_image.Goals.{After-train-train, After-judge, In_ok-alone, After-make-plan}
+use Rattle.image.proofs.verdict.judge_image.Goals.{After-train-train, After-judge, In_ok-alone}
 
 pub returns-in_err-checked-clause-says : goal.returns-in_err-checked-clause-says
 returns-in_err-checked-clause-says c =
@@ -52,43 +51,37 @@ accepted : (c : In_ok-alone) → c.judge.result ≡ walk (train_meaning (frames_
     → Ok c.in_ok-alone.alone ≡ walk (train_meaning (frames_in (records_of c.in_ok-checked.checked))).amounts
 accepted c w = sym (ok_kept PlanFault c.judge.result c.in_ok-alone.alone c.in_ok-alone.ensures.cases) ∙ w
 
--- The train that the plan stands over.
-over : (c : After-make-plan) → frames_of (guest c.make-plan.result) ≡ frames_in (records_of c.in_ok-checked.checked)
-over c = ap frames_of c.make-plan.ensures.guest ∙ c.train-train.ensures
+-- What admitting the tasks answers and leaves, by the frames that were read.
+abbrev left_by : (c : After-judge) → AdmittedTo
+left_by c = admitted_to (train_meaning (frames_in (records_of c.in_ok-checked.checked))) (records_of c.in_ok-checked.checked) blank
 
--- What admitting the tasks into the plan answers and leaves, by the train's frames and without the plan.
-told : (c : After-make-plan) (r : Result (Option ℕ) PlanFault) (l : Channels)
-    → ◌≡◌ {A = AdmittedTo} (r, l) (admitted_to (train_meaning (frames_of (guest c.make-plan.result))) (records_of c.in_ok-checked.checked) (ledger c.make-plan.result))
-    → ◌≡◌ {A = AdmittedTo} (r, l) (admitted_to (train_meaning (frames_in (records_of c.in_ok-checked.checked))) (records_of c.in_ok-checked.checked) blank)
-told c r l e = e ∙ (λ i. admitted_to (train_meaning (over c i)) (records_of c.in_ok-checked.checked) (c.make-plan.ensures.channels i))
-
-kept : (c : After-make-plan) (l : Channels)
-    → ((before : List Call) → ledger c.make-plan.result ≡ after (train_meaning (frames_of (guest c.make-plan.result))) blank before → KeptAgain (train_meaning (frames_of (guest c.make-plan.result))) before l)
-    → KeptAgain (train_meaning (frames_in (records_of c.in_ok-checked.checked))) [] l
-kept c l k = subst (λ (fs : List FrameParams). KeptAgain (train_meaning fs) [] l) (over c) (k [] c.make-plan.ensures.channels)
+told : (c : After-judge) (r : Result (Option ℕ) PlanFault)
+    → r ≡ (admitted_to (train_meaning (frames_of c.train-train.result)) (records_of c.in_ok-checked.checked) blank).0 → ◌≡◌ {A = AdmittedTo} (r, (left_by c).1) (left_by c)
+told c r e = ap (λ (x : Result (Option ℕ) PlanFault). let y : AdmittedTo = (x, (left_by c).1) in y) (e ∙ ap (λ (fs : List FrameParams). (admitted_to (train_meaning fs) (records_of c.in_ok-checked.checked) blank).0) c.train-train.ensures)
 
 pub returns-in_err-with_tasks-clause-says : goal.returns-in_err-with_tasks-clause-says
 returns-in_err-with_tasks-clause-says c =
     let at = goal.at.returns-in_err-with_tasks-clause-says c in
     let p = err_from_is_err_and c.from_residual-in_err-with_tasks.result c.from_residual-in_err-with_tasks.ensures.1 in
     let q = c.in_err-with_tasks.field-0.0 in
-    let l = ledger c.admit_to.new.plan in
     rw (p.1, p.2) (task_refused c.args.image.now (records_of c.in_ok-checked.checked) (sym c.in_ok-checked.ensures) (laws at.After-train-train) c.in_ok-alone.alone (accepted at.In_ok-alone (walked at.After-judge))
-    q l (told at.After-make-plan (Err q) l c.in_err-with_tasks.ensures.says))
+    q (left_by at.After-judge).1 (told at.After-judge (Err q) c.in_err-with_tasks.ensures.says))
+
+kept : (c : After-judge) → KeptAgain (train_meaning (frames_of c.train-train.result)) [] (admitted_to (train_meaning (frames_of c.train-train.result)) (records_of c.in_ok-checked.checked) blank).1
+    → KeptAgain (train_meaning (frames_in (records_of c.in_ok-checked.checked))) [] (left_by c).1
+kept c = subst (λ (fs : List FrameParams). KeptAgain (train_meaning fs) [] (admitted_to (train_meaning fs) (records_of c.in_ok-checked.checked) blank).1) c.train-train.ensures
 
 -- All tasks are admitted.
 pub returns-clause-says : goal.returns-clause-says
 returns-clause-says c =
     let at = goal.at.returns-clause-says c in
-    let l = ledger c.admit_to.new.plan in
     rw c.unwrap_or.ensures (all_admitted c.args.image.now (records_of c.in_ok-checked.checked) (sym c.in_ok-checked.ensures) (laws at.After-train-train) c.in_ok-alone.alone (accepted at.In_ok-alone (walked at.After-judge))
-    c.in_ok-with_tasks.with_tasks l (told at.After-make-plan (Ok c.in_ok-with_tasks.with_tasks) l c.in_ok-with_tasks.ensures.says) (kept at.After-make-plan l c.admit_to.ensures.kept)).0
+    c.in_ok-with_tasks.with_tasks (left_by at.After-judge).1 (told at.After-judge (Ok c.in_ok-with_tasks.with_tasks) c.in_ok-with_tasks.ensures.says) (kept at.After-judge c.admit_over.ensures.kept)).0
 
 pub returns-clause-safe : goal.returns-clause-safe
 returns-clause-safe c = λ w e.
     let at = goal.at.returns-clause-safe c in
-    let l = ledger c.admit_to.new.plan in
     let same : unwrap_or c.in_ok-with_tasks.with_tasks c.in_ok-alone.alone ≡ w = sym c.unwrap_or.ensures ∙ cc in
     subst (YesMeans c.args.image.now) same
     (all_admitted c.args.image.now (records_of c.in_ok-checked.checked) (sym c.in_ok-checked.ensures) (laws at.After-train-train) c.in_ok-alone.alone (accepted at.In_ok-alone (walked at.After-judge))
-    c.in_ok-with_tasks.with_tasks l (told at.After-make-plan (Ok c.in_ok-with_tasks.with_tasks) l c.in_ok-with_tasks.ensures.says) (kept at.After-make-plan l c.admit_to.ensures.kept)).1
+    c.in_ok-with_tasks.with_tasks (left_by at.After-judge).1 (told at.After-judge (Ok c.in_ok-with_tasks.with_tasks) c.in_ok-with_tasks.ensures.says) (kept at.After-judge c.admit_over.ensures.kept)).1
